@@ -1,0 +1,47 @@
+-- `cdl_recurrences::true_delay_output` meets its contract. Assumes nothing.
+use lib.Ieee.{ofBits}
+use Rattle.cdl_recurrences.specs.CdlRecurrences.{true-delay-output}
+use borrow.Author.Needs.{needs}
+use Rattle.cdl_recurrences.proofs.true_delay_output.Statement.{statement}
+use Rattle.cdl_recurrences.proofs.true_delay_output.Tie as tie
+
+max-requires : tie.Need-max-requires
+max-requires c κs = search needs
+
+enum-told : tie.Need-enum-told
+enum-told c = search needs
+
+enum-known-prev-time : tie.Need-enum-known-prev-time
+enum-known-prev-time c = search needs
+
+true-delay-running-requires : tie.Need-true-delay-running-requires
+true-delay-running-requires c κs = search needs
+
+returns : tie.Need-returns
+unfolding true-delay-output ofBits
+returns c = rw (c .before .before .before .before .if1 .taken, c .before .enum-told .given .1, ← c .before .before .before .max .ensures, c .if2 .taken)
+
+returns-2 : tie.Need-returns-2
+unfolding true-delay-output ofBits
+returns-2 c = rw (c .before .before .before .before .if1 .taken, c .before .enum-told .given .1, ← c .before .before .before .max .ensures, c .if2 .left)
+
+returns-3 : tie.Need-returns-3
+unfolding true-delay-output ofBits
+returns-3 c = rw (c .true-delay-running .ensures, c .before .before .before .before .before .if1 .taken, c .before .before .prev-time .given .1, c .before .before .before .before .max .ensures)
+
+returns-4 : tie.Need-returns-4
+unfolding true-delay-output ofBits
+returns-4 c = rw (c .if1 .left)
+
+pub true-delay-output-spec : {M : Type 1} → statement M
+true-delay-output-spec =
+    tie.close
+    (tie.spec
+    max-requires
+    enum-told
+    enum-known-prev-time
+    true-delay-running-requires
+    returns
+    returns-2
+    returns-3
+    returns-4)

@@ -1,0 +1,80 @@
+-- What the recurrences of cdl_recurrences.rs return, in that file's order. Each definition names its Rust function and, where there is one, its block of the Modelica Buildings library (CDL).
+-- Document 01 decides `clamp`, `hysteresis`, `less-hysteretic`, `sampler-output`, `initial-sample-time`, `sample-index` and `sample-due`; docs/DIFFERENCES.md has each pair that differs.
+use mathlib.Core.Bool.{Bool, true, false, not, _&&_, _||_}
+use lib.IntN.{ℤ}
+use lib.Signed.{ltZ}
+use lib.Ieee.{Float}
+use Rattle.f64_helpers.specs.F64.{_⊕_, _⊖_, _⊗_, _⊘_, _<ᶠ_, _>ᶠ_, _≤ᶠ_, _≥ᶠ_, decimal, zero, if_then_else_}
+use Rattle.f64_helpers.specs.Helpers.{floor, ceil, larger, as-i64}
+use Rattle.cdl_recurrences.specs.declared.OptionalTime.{OptionalTime}
+use Rattle.cdl_recurrences.specs.declared.OptionalTime.the-variants.{Absent, At}
+use Rattle.cdl_recurrences.specs.declared.TrueDelayOutput.{TrueDelayOutput}
+use Rattle.cdl_recurrences.specs.declared.SampleDue.{SampleDue}
+
+-- Rust `clamp`. Below the low end it is the low end, above the high end the high end, else the number itself.
+unfoldable pub clamp : Float → Float → Float → Float
+clamp value min max = if value <ᶠ min then min else if value >ᶠ max then max else value
+
+-- Rust `buildings_line`; CDL.Reals.Line, with both limits: the line through (x1, f1) and (x2, f2) at u, which is first limited to x1 .. x2
+unfoldable pub buildings-line : Float → Float → Float → Float → Float → Float
+buildings-line x1 f1 x2 f2 u =
+    let x-lim = clamp u x1 x2 in
+    let slope = (f2 ⊖ f1) ⊘ (x2 ⊖ x1) in
+    let intercept = f2 ⊖ slope ⊗ x2 in
+    intercept ⊕ slope ⊗ x-lim
+
+-- Rust `hysteresis`; CDL.Reals.Hysteresis. Off turns on if u > high; on stays on if u >= low.
+unfoldable pub hysteresis : Float → Float → Float → Bool → Bool
+hysteresis u u-low u-high previous = (not previous && (u >ᶠ u-high)) || (previous && (u ≥ᶠ u-low))
+
+-- Rust `less_hysteretic`; CDL.Reals.Less with h. Off turns on if u1 < u2; on stays on if u1 < u2 + h.
+unfoldable pub less-hysteretic : Float → Float → Float → Bool → Bool
+less-hysteretic u1 u2 h previous = (not previous && (u1 <ᶠ u2)) || (previous && (u1 <ᶠ u2 ⊕ h))
+
+-- Rust `greater_hysteretic`; CDL.Reals.Greater with h. Off turns on if u1 > u2; on stays on if u1 > u2 - h.
+unfoldable pub greater-hysteretic : Float → Float → Float → Bool → Bool
+greater-hysteretic u1 u2 h previous = (not previous && (u1 >ᶠ u2)) || (previous && (u1 >ᶠ u2 ⊖ h))
+
+-- The last three cases of Rust `true_delay_output`: the input is true, and it is not the first tick.
+unfoldable pub true-delay-running : Float → Float → Float → Bool → Bool → Float → TrueDelayOutput
+true-delay-running t delay previous-time prev-u held timer =
+    let next-timer = timer ⊕ larger (t ⊖ previous-time) zero in
+    if held then record { output = true; timer = delay }
+    else if not prev-u then record { output = delay ≤ᶠ zero; timer = zero }
+    else record { output = next-timer ≥ᶠ delay; timer = next-timer }
+
+-- Rust `true_delay_output`; CDL.Logical.TrueDelay. A rising input is passed on once it has been true for the delay, a falling one at once.
+-- A first input that is true is passed on at once, unless `delay-on-init`.
+unfoldable pub true-delay-output : Float → Bool → Float → Bool → OptionalTime → Bool → Bool → Float → TrueDelayOutput
+true-delay-output t false delay-time delay-on-init prev-time prev-u held timer = record { output = false; timer = zero }
+true-delay-output t true delay-time delay-on-init Absent prev-u held timer =
+    let delay = larger delay-time zero in
+    if delay-on-init && (delay >ᶠ zero) then record { output = false; timer = zero } else record { output = true; timer = delay }
+true-delay-output t true delay-time delay-on-init (At previous-time) prev-u held timer =
+    true-delay-running t (larger delay-time zero) previous-time prev-u held timer
+
+-- Rust `buildings_round_six`: to six decimals, a half away from 0
+unfoldable pub buildings-round-six : Float → Float
+buildings-round-six x =
+    let factor = decimal 1000000 1 in
+    let half = decimal 5 10 in
+    if x >ᶠ zero then floor (x ⊗ factor ⊕ half) ⊘ factor else ceil (x ⊗ factor ⊖ half) ⊘ factor
+
+-- Rust `initial_sample_time`; the `t0` of CDL.Discrete.Sampler and UnitDelay: the last sample instant that is not after the start
+unfoldable pub initial-sample-time : Float → Float → Float
+initial-sample-time t-start period = buildings-round-six (floor (t-start ⊘ period) ⊗ period)
+
+-- Rust `sample_index`, without its 1e-9: how many periods after t0, as an i64
+unfoldable pub sample-index : Float → Float → Float → ℤ
+sample-index t-now t0 period = as-i64 (floor ((t-now ⊖ t0) ⊘ period))
+
+-- Rust `sample_due`
+unfoldable pub sample-due : Float → Float → Float → ℤ → SampleDue
+sample-due t-now t0 period last-index =
+    let index = sample-index t-now t0 period in
+    record { due = ltZ last-index index; index = index }
+
+-- Rust `sampler_output`; CDL.Discrete.Sampler: the input on the first tick and when a sample is due, else the held number
+unfoldable pub sampler-output : Float → Float → Float → Bool → Float → ℤ → Float → Float
+sampler-output t input period initialized t0 last-index held =
+    if not initialized || sample-due t t0 period last-index .due then input else held

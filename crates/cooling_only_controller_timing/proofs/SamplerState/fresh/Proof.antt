@@ -1,0 +1,9 @@
+-- `cooling_only_controller_timing::SamplerState::fresh` meets its contract. Assumes nothing.
+use Rattle.cooling_only_controller_timing.proofs.SamplerState.fresh.Statement.{statement}
+use Rattle.cooling_only_controller_timing.proofs.SamplerState.fresh.Tie as tie
+
+returns : tie.Need-returns
+returns c = ?
+
+pub fresh-spec : {M : Type 1} → statement M
+fresh-spec = tie.close (tie.spec returns)

@@ -1,0 +1,19 @@
+-- `cooling_only_controller_timing::seconds_since` meets its contract. Assumes nothing.
+use borrow.Author.Needs.{needs}
+use Rattle.cooling_only_controller_timing.proofs.seconds_since.Statement.{statement}
+use Rattle.cooling_only_controller_timing.proofs.seconds_since.Tie as tie
+
+enum-told : tie.Need-enum-told
+enum-told c = search needs
+
+enum-known-entry-time : tie.Need-enum-known-entry-time
+enum-known-entry-time c = search needs
+
+returns : tie.Need-returns
+returns c = ?
+
+returns-2 : tie.Need-returns-2
+returns-2 c = ?
+
+pub seconds-since-spec : {M : Type 1} → statement M
+seconds-since-spec = tie.close (tie.spec enum-told enum-known-entry-time returns returns-2)

@@ -1,0 +1,269 @@
+// The timing blocks of cooling_only_controller_timing.rs: sampler, unit delay, true delay, timer. A state goes in by value and comes back beside the output.
+ghost use mathlib.Core.Path.{_≡_};
+ghost use Rattle.cooling_only_controller_timing.specs.Timing as Timing;
+use cdl_recurrences::OptionalTime;
+
+// Periodic sampler.
+pub struct SamplerState {
+    pub initialized: bool,
+    pub t0: f64,
+    pub last_index: i64,
+    pub held: f64,
+}
+
+pub struct SamplerStep {
+    pub state: SamplerState,
+    pub output: f64,
+}
+
+impl SamplerState {
+    pub fn fresh() -> SamplerState
+        ensures { λ r. ⌜ r ≡ Timing.fresh-sampler ⌝ }
+    {
+        SamplerState {
+            initialized: false,
+            t0: 0.0,
+            last_index: 0,
+            held: 0.0,
+        }
+    }
+
+    pub fn sample(self, t: f64, input: f64, period: f64) -> SamplerStep
+        ensures { λ r. ⌜ r ≡ Timing.sampler-sample self t input period ⌝ }
+    {
+        let output = cdl_recurrences::sampler_output(
+            t,
+            input,
+            period,
+            self.initialized,
+            self.t0,
+            self.last_index,
+            self.held,
+        );
+        let state = self.after_sample(t, input, period);
+        SamplerStep { state, output }
+    }
+
+    // The state after a tick: the first one starts the grid, and a later one is stored when a sample is due.
+    fn after_sample(self, t: f64, input: f64, period: f64) -> SamplerState
+        ensures { λ r. ⌜ r ≡ Timing.sampler-after-sample self t input period ⌝ }
+    {
+        if self.initialized {
+            let next = cdl_recurrences::sample_due(t, self.t0, period, self.last_index);
+            if next.due {
+                SamplerState {
+                    initialized: true,
+                    t0: self.t0,
+                    last_index: next.index,
+                    held: input,
+                }
+            } else {
+                self
+            }
+        } else {
+            let t0 = cdl_recurrences::initial_sample_time(t, period);
+            let index = cdl_recurrences::sample_index(t, t0, period);
+            SamplerState {
+                initialized: true,
+                t0,
+                last_index: index,
+                held: input,
+            }
+        }
+    }
+}
+
+// Unit delay of one period: the output that it holds, and the sample staged for the next instant.
+pub struct UnitDelayState {
+    pub initialized: bool,
+    pub t0: f64,
+    pub last_index: i64,
+    pub held: f64,
+    pub staged: f64,
+}
+
+pub struct UnitDelayStep {
+    pub state: UnitDelayState,
+    pub output: f64,
+}
+
+impl UnitDelayState {
+    pub fn fresh() -> UnitDelayState
+        ensures { λ r. ⌜ r ≡ Timing.fresh-unit-delay ⌝ }
+    {
+        UnitDelayState {
+            initialized: false,
+            t0: 0.0,
+            last_index: 0,
+            held: 0.0,
+            staged: 0.0,
+        }
+    }
+
+    pub fn sample(self, t: f64, input: f64, period: f64) -> UnitDelayStep
+        ensures { λ r. ⌜ r ≡ Timing.unit-delay-sample self t input period ⌝ }
+    {
+        if self.initialized {
+            let next = cdl_recurrences::sample_due(t, self.t0, period, self.last_index);
+            if next.due {
+                let state = UnitDelayState {
+                    initialized: true,
+                    t0: self.t0,
+                    last_index: next.index,
+                    held: self.staged,
+                    staged: input,
+                };
+                UnitDelayStep {
+                    state,
+                    output: self.staged,
+                }
+            } else {
+                UnitDelayStep {
+                    state: self,
+                    output: self.held,
+                }
+            }
+        } else {
+            let state = self.first_sample(t, input, period);
+            UnitDelayStep {
+                state,
+                output: self.held,
+            }
+        }
+    }
+
+    // The first tick starts the grid, and stages its input only if it stands on the grid.
+    fn first_sample(self, t: f64, input: f64, period: f64) -> UnitDelayState
+        ensures { λ r. ⌜ r ≡ Timing.unit-delay-first-sample self t input period ⌝ }
+    {
+        let t0 = cdl_recurrences::initial_sample_time(t, period);
+        let index = cdl_recurrences::sample_index(t, t0, period);
+        let sample_position = (t - t0) / period;
+        let offset = f64_helpers::abs(sample_position - std::num::nearest_i64_to_f64(index));
+        let staged = if offset <= 1e-9 { input } else { self.staged };
+        UnitDelayState {
+            initialized: true,
+            t0,
+            last_index: index,
+            held: self.held,
+            staged,
+        }
+    }
+}
+
+// True delay.
+pub struct TrueDelayState {
+    pub previous_time: OptionalTime,
+    pub previous_input: bool,
+    pub held: bool,
+    pub timer: f64,
+}
+
+pub struct TrueDelayStep {
+    pub state: TrueDelayState,
+    pub output: bool,
+}
+
+impl TrueDelayState {
+    pub fn fresh() -> TrueDelayState
+        ensures { λ r. ⌜ r ≡ Timing.fresh-true-delay ⌝ }
+    {
+        TrueDelayState {
+            previous_time: OptionalTime::Absent,
+            previous_input: false,
+            held: false,
+            timer: 0.0,
+        }
+    }
+
+    pub fn output(
+        self,
+        t: f64,
+        input: bool,
+        delay_time: f64,
+        delay_on_init: bool,
+    ) -> TrueDelayStep
+        ensures { λ r. ⌜ r ≡ Timing.true-delay self t input «delay_time» «delay_on_init» ⌝ }
+    {
+        let next = cdl_recurrences::true_delay_output(
+            t,
+            input,
+            delay_time,
+            delay_on_init,
+            self.previous_time,
+            self.previous_input,
+            self.held,
+            self.timer,
+        );
+        let state = TrueDelayState {
+            previous_time: OptionalTime::At(t),
+            previous_input: input,
+            held: next.output,
+            timer: next.timer,
+        };
+        TrueDelayStep {
+            state,
+            output: next.output,
+        }
+    }
+}
+
+// Seconds since the input last rose.
+pub struct TimerState {
+    pub entry_time: OptionalTime,
+    pub previous_input: bool,
+}
+
+pub struct TimerStep {
+    pub state: TimerState,
+    pub output: f64,
+}
+
+impl TimerState {
+    pub fn fresh() -> TimerState
+        ensures { λ r. ⌜ r ≡ Timing.fresh-timer ⌝ }
+    {
+        TimerState {
+            entry_time: OptionalTime::Absent,
+            previous_input: false,
+        }
+    }
+
+    pub fn elapsed(self, t: f64, input: bool) -> TimerStep
+        ensures { λ r. ⌜ r ≡ Timing.timer-elapsed self t input ⌝ }
+    {
+        if input {
+            let entry_time = if self.previous_input {
+                self.entry_time
+            } else {
+                OptionalTime::At(t)
+            };
+            let output = seconds_since(entry_time, t);
+            TimerStep {
+                state: TimerState {
+                    entry_time,
+                    previous_input: true,
+                },
+                output,
+            }
+        } else {
+            TimerStep {
+                state: TimerState {
+                    entry_time: OptionalTime::Absent,
+                    previous_input: false,
+                },
+                output: 0.0,
+            }
+        }
+    }
+}
+
+// `entry_time.map_or(0.0, |entry| t - entry)`
+fn seconds_since(entry_time: OptionalTime, t: f64) -> f64
+    ensures { λ r. ⌜ r ≡ Timing.seconds-since «entry_time» t ⌝ }
+{
+    match entry_time {
+        OptionalTime::Absent => 0.0,
+        OptionalTime::At(entry) => t - entry,
+    }
+}

@@ -1,0 +1,4 @@
+mod Facts
+mod Signs
+pub mod Meaning
+pub mod WholeSeconds

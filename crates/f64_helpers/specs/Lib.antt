@@ -1,0 +1,3 @@
+pub mod F64
+pub mod Helpers
+pub mod Seconds

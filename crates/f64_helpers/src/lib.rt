@@ -1,0 +1,109 @@
+// The f64 functions that the published Rust takes from its standard library, for every f64: NaN, infinities, zeros of either sign, subnormals.
+ghost use mathlib.Core.Path.{_≡_};
+ghost use lib.Dec.{T};
+ghost use Rattle.f64_helpers.specs.F64.{_<ᶠ_, zero};
+ghost use Rattle.f64_helpers.specs.Helpers as Helpers;
+
+// The floor of an x above 0. From 2^52 on every f64 is whole.
+fn floor_of_positive(x: f64) -> f64
+    requires { ⌜ T (zero <ᶠ x) ⌝ }
+    ensures { λ r. ⌜ r ≡ Helpers.floor x ⌝ }
+{
+    if x < 4503599627370496.0 {
+        std::num::nearest_u64_to_f64(std::num::truncating_f64_to_u64(x))
+    } else {
+        x
+    }
+}
+
+// The ceiling of an x above 0: one more than the whole part where that lies below x.
+fn ceil_of_positive(x: f64) -> f64
+    requires { ⌜ T (zero <ᶠ x) ⌝ }
+    ensures { λ r. ⌜ r ≡ Helpers.ceil x ⌝ }
+{
+    if x < 4503599627370496.0 {
+        let n: u64 = std::num::truncating_f64_to_u64(x);
+        let whole: f64 = std::num::nearest_u64_to_f64(n);
+        if whole < x {
+            std::num::nearest_u64_to_f64(n + 1)
+        } else {
+            whole
+        }
+    } else {
+        x
+    }
+}
+
+// `x.floor()`. The last case is a zero of either sign, or a NaN.
+pub fn floor(x: f64) -> f64
+    ensures { λ r. ⌜ r ≡ Helpers.floor x ⌝ }
+{
+    if x > 0.0 {
+        floor_of_positive(x)
+    } else if x < 0.0 {
+        -ceil_of_positive(-x)
+    } else {
+        x
+    }
+}
+
+// `x.ceil()`.
+pub fn ceil(x: f64) -> f64
+    ensures { λ r. ⌜ r ≡ Helpers.ceil x ⌝ }
+{
+    -floor(-x)
+}
+
+// `x.abs()`.
+pub fn abs(x: f64) -> f64
+    ensures { λ r. ⌜ r ≡ Helpers.abs x ⌝ }
+{
+    if x > 0.0 {
+        x
+    } else if x < 0.0 {
+        -x
+    } else if x != x {
+        x
+    } else {
+        0.0
+    }
+}
+
+// `a.max(b)`. The sum of two zeros is -0.0 only if both are.
+pub fn max(a: f64, b: f64) -> f64
+    ensures { λ r. ⌜ r ≡ Helpers.larger a b ⌝ }
+{
+    if a != a {
+        b
+    } else if a < b {
+        b
+    } else if a == 0.0 {
+        if b == 0.0 { a + b } else { a }
+    } else {
+        a
+    }
+}
+
+// `a.min(b)`.
+pub fn min(a: f64, b: f64) -> f64
+    ensures { λ r. ⌜ r ≡ Helpers.smaller a b ⌝ }
+{
+    -max(-a, -b)
+}
+
+// `x as i64`.
+pub fn as_i64(x: f64) -> i64
+    ensures { λ r. ⌜ r ≡ Helpers.as-i64 x ⌝ }
+{
+    if x < 9223372036854775808.0 {
+        if x >= -9223372036854775808.0 {
+            std::num::truncating_f64_to_i64(x)
+        } else {
+            i64::MIN
+        }
+    } else if x != x {
+        0
+    } else {
+        i64::MAX
+    }
+}
