@@ -176,21 +176,16 @@ impl TrueDelayState {
         }
     }
 
-    pub fn output(
-        self,
-        t: f64,
-        input: bool,
-        delay_time: f64,
-        delay_on_init: bool,
-    ) -> TrueDelayStep
+    pub fn output(self, t: f64, input: bool, delay_time: f64, delay_on_init: bool) -> TrueDelayStep
         ensures { λ r. ⌜ r ≡ Timing.true-delay self t input «delay_time» «delay_on_init» ⌝ }
     {
+        let previous_time = self.previous_time;
         let next = cdl_recurrences::true_delay_output(
             t,
             input,
             delay_time,
             delay_on_init,
-            self.previous_time,
+            previous_time,
             self.previous_input,
             self.held,
             self.timer,

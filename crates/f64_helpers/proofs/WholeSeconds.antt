@@ -273,4 +273,3 @@ reach-any (fin s m e) p (fin t k c) n w =
     same-test (le (fin s m e) (fin t k c)) (leb (seconds-up (fin s m e)) n)
     (λ h. le→leb (seconds-up (fin s m e)) n (u .0 (le-of-mul-le-mul-right (subst (λ (z : ℕ). A ≤ z) b (sz .0 h)) (down-pos c))))
     (λ h. sz .1 (subst (λ (z : ℕ). A ≤ z) (sym b) (mul-le-mul-right (down c) (u .1 (leb→le (seconds-up (fin s m e)) n h)))))
-

@@ -10,7 +10,6 @@ infixl 6 _⊕_ _⊖_
 infixl 7 _⊗_ _⊘_
 infix 4 _<ᶠ_ _>ᶠ_ _≤ᶠ_ _≥ᶠ_
 infixr 1 if_then_else_
-
 -- Rust's `x + y`, `x - y`, `x * y` and `x / y`
 abbrev pub _⊕_ : Float → Float → Float
 x ⊕ y = add binary64 x y

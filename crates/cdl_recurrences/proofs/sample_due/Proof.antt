@@ -10,7 +10,7 @@ sample-index-requires c κs = search needs
 
 returns : tie.Need-returns
 unfolding sample-due
-returns c = 
+returns c =
     rw (toZ-ofZ (c .before .fits .last-index), toZ-ofZ (record { sfits = c .sample-index .ok }), c .sample-index .ensures)
 
 pub sample-due-spec : {M : Type 1} → statement M

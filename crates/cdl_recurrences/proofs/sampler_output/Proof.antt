@@ -12,13 +12,13 @@ sample-due-requires c κs = search needs
 
 returns : tie.Need-returns
 unfolding sampler-output
-returns c = 
+returns c =
     let due = rw (toZ-ofZ (c .before .before .before .fits .last-index)) at (sym (ap (λ (d : SampleDue). d .due) (c .before .sample-due .ensures)) ∙ c .if2 .taken) in
     rw (c .before .before .if1 .taken, due)
 
 returns-2 : tie.Need-returns-2
 unfolding sampler-output
-returns-2 c = 
+returns-2 c =
     let due = rw (toZ-ofZ (c .before .before .before .fits .last-index)) at (sym (ap (λ (d : SampleDue). d .due) (c .before .sample-due .ensures)) ∙ c .if2 .left) in
     rw (c .before .before .if1 .taken, due)
 

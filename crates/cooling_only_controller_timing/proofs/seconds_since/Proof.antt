@@ -1,4 +1,5 @@
 -- `cooling_only_controller_timing::seconds_since` meets its contract. Assumes nothing.
+use lib.Ieee.{ofBits}
 use borrow.Author.Needs.{needs}
 use Rattle.cooling_only_controller_timing.proofs.seconds_since.Statement.{statement}
 use Rattle.cooling_only_controller_timing.proofs.seconds_since.Tie as tie
@@ -10,10 +11,11 @@ enum-known-entry-time : tie.Need-enum-known-entry-time
 enum-known-entry-time c = search needs
 
 returns : tie.Need-returns
-returns c = ?
+unfolding ofBits
+returns c = rw (c .enum-told .given .1)
 
 returns-2 : tie.Need-returns-2
-returns-2 c = ?
+returns-2 c = rw (c .before .entry-time .given .1)
 
 pub seconds-since-spec : {M : Type 1} → statement M
 seconds-since-spec = tie.close (tie.spec enum-told enum-known-entry-time returns returns-2)

@@ -1,4 +1,7 @@
 -- `cooling_only_controller_timing::SamplerState::sample` meets its contract. Assumes nothing.
+use mir.Syntax.{w64}
+use mir.Facts.{toZ-ofZ}
+use Rattle.cooling_only_controller_timing.specs.Timing.{sampler-sample}
 use borrow.Author.Needs.{needs}
 use Rattle.cooling_only_controller_timing.proofs.SamplerState.sample.Statement.{statement}
 use Rattle.cooling_only_controller_timing.proofs.SamplerState.sample.Tie as tie
@@ -10,7 +13,10 @@ after-sample-requires : tie.Need-after-sample-requires
 after-sample-requires c κs = search needs
 
 returns : tie.Need-returns
-returns c = ?
+unfolding sampler-sample
+returns c =
+    let last = toZ-ofZ {w = w64} {z = c .before .before .before .args .self .«last_index»} (record { sfits = c .before .before .struct-told .given .1 .1 .0 .1 }) in
+    rw (c .after-sample .ensures, rw last at (c .before .sampler-output .ensures))
 
 pub sample-spec : {M : Type 1} → statement M
 sample-spec = tie.close (tie.spec sampler-output-requires after-sample-requires returns)

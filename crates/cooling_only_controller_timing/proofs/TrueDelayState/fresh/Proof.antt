@@ -1,9 +1,12 @@
 -- `cooling_only_controller_timing::TrueDelayState::fresh` meets its contract. Assumes nothing.
+use mathlib.Core.Path.{refl}
+use lib.Ieee.{ofBits}
 use Rattle.cooling_only_controller_timing.proofs.TrueDelayState.fresh.Statement.{statement}
 use Rattle.cooling_only_controller_timing.proofs.TrueDelayState.fresh.Tie as tie
 
 returns : tie.Need-returns
-returns c = ?
+unfolding ofBits
+returns c = refl
 
 pub fresh-spec : {M : Type 1} → statement M
 fresh-spec = tie.close (tie.spec returns)

@@ -1,4 +1,7 @@
 -- `cooling_only_controller_timing::UnitDelayState::sample` meets its contract. Assumes nothing.
+use mir.Syntax.{w64}
+use mir.Facts.{toZ-ofZ}
+use Rattle.cooling_only_controller_timing.specs.Timing.{unit-delay-sample}
 use borrow.Author.Needs.{needs}
 use Rattle.cooling_only_controller_timing.proofs.UnitDelayState.sample.Statement.{
   statement,
@@ -12,13 +15,22 @@ first-sample-requires : tie.Need-first-sample-requires
 first-sample-requires c κs = search needs
 
 returns : tie.Need-returns
-returns c = ?
+unfolding unit-delay-sample
+returns c =
+    let last = toZ-ofZ {w = w64} {z = c .before .before .before .before .before .args .self .«last_index»} (record { sfits = c .before .before .before .struct-told .given .1 .1 .0 .1 }) in
+    let next = rw last at (c .before .before .sample-due .ensures) in
+    rw (c .before .before .before .before .if1 .taken, ← next, c .before .if2 .taken, toZ-ofZ (record { sfits = c .struct-told2 .given .1 .0 .1 }))
 
 returns-2 : tie.Need-returns-2
-returns-2 c = ?
+unfolding unit-delay-sample
+returns-2 c =
+    let last = toZ-ofZ {w = w64} {z = c .before .before .before .before .args .self .«last_index»} (record { sfits = c .before .before .struct-told .given .1 .1 .0 .1 }) in
+    let next = rw last at (c .before .sample-due .ensures) in
+    rw (c .before .before .before .if1 .taken, ← next, c .if2 .left)
 
 returns-3 : tie.Need-returns-3
-returns-3 c = ?
+unfolding unit-delay-sample
+returns-3 c = rw (c .first-sample .ensures, c .before .if1 .left)
 
 pub sample-spec : {M : Type 1} → statement M
 sample-spec =
