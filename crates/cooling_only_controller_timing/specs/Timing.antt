@@ -3,7 +3,7 @@ use mathlib.Core.Bool.{Bool, true, false, not, _&&_}
 use lib.IntN.{pos}
 use lib.Ieee.{Float}
 use Rattle.f64_helpers.specs.F64.{_⊖_, _⊘_, _≤ᶠ_, decimal, zero, if_then_else_}
-use Rattle.f64_helpers.specs.Helpers.{abs, as-f64}
+use Rattle.f64_helpers.specs.Helpers.{abs, larger, as-f64}
 use Rattle.cdl_recurrences.specs.CdlRecurrences.{true-delay-output, sampler-output, initial-sample-time, sample-index, sample-due}
 use Rattle.cdl_recurrences.specs.declared.OptionalTime.{OptionalTime}
 use Rattle.cdl_recurrences.specs.declared.OptionalTime.the-variants.{Absent, At}
@@ -85,3 +85,10 @@ timer-elapsed s t input =
     let entry-time = if input && not (s .«previous_input») then At t else s .«entry_time» in
     if input then record { state = record { «entry_time» = entry-time; «previous_input» = input }; output = seconds-since entry-time t }
     else record { state = record { «entry_time» = Absent; «previous_input» = input }; output = zero }
+
+-- ---- the PI loops' time step
+
+-- Rust's `previous_time.map_or(0.0, |previous| (t - previous).max(0.0))`, in LoopPiState and DamperState
+abbrev pub step-seconds : OptionalTime → Float → Float
+step-seconds Absent t = zero
+step-seconds (At previous) t = larger (t ⊖ previous) zero

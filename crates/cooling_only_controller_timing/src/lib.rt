@@ -262,3 +262,13 @@ fn seconds_since(entry_time: OptionalTime, t: f64) -> f64
         OptionalTime::At(entry) => t - entry,
     }
 }
+
+// `previous_time.map_or(0.0, |previous| (t - previous).max(0.0))`: the seconds over which a PI loop integrates.
+pub fn step_seconds(previous_time: OptionalTime, t: f64) -> f64
+    ensures { λ r. ⌜ r ≡ Timing.step-seconds «previous_time» t ⌝ }
+{
+    match previous_time {
+        OptionalTime::Absent => 0.0,
+        OptionalTime::At(previous) => f64_helpers::max(t - previous, 0.0),
+    }
+}

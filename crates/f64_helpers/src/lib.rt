@@ -1,7 +1,7 @@
 // The f64 functions that the published Rust takes from its standard library, for every f64: NaN, infinities, zeros of either sign, subnormals.
 ghost use mathlib.Core.Path.{_≡_};
 ghost use lib.Dec.{T};
-ghost use Rattle.f64_helpers.specs.F64.{_<ᶠ_, zero};
+ghost use Rattle.f64_helpers.specs.F64.{_<ᶠ_, zero, if_then_else_};
 ghost use Rattle.f64_helpers.specs.Helpers as Helpers;
 
 // The floor of an x above 0. From 2^52 on every f64 is whole.
@@ -106,4 +106,11 @@ pub fn as_i64(x: f64) -> i64
     } else {
         i64::MAX
     }
+}
+
+// `if b { x } else { y }`, where a stage picks between two values.
+pub fn choose(b: bool, x: f64, y: f64) -> f64
+    ensures { λ r. ⌜ r ≡ (if b then x else y) ⌝ }
+{
+    if b { x } else { y }
 }

@@ -1,0 +1,24 @@
+-- `cooling_only_controller_conditioning::LoopPiState::output` meets its contract. Assumes nothing.
+use lib.Ieee.{ofBits, round, neg}
+use Rattle.cooling_only_controller_conditioning.specs.Conditioning.{loop-pi}
+use borrow.Author.Needs.{needs}
+use Rattle.cooling_only_controller_conditioning.proofs.LoopPiState.output.Statement.{
+  statement,
+}
+use Rattle.cooling_only_controller_conditioning.proofs.LoopPiState.output.Tie as tie
+
+clamp-requires : tie.Need-clamp-requires
+clamp-requires c κs = search needs
+
+step-seconds-requires : tie.Need-step-seconds-requires
+step-seconds-requires c κs = search needs
+
+choose-requires : tie.Need-choose-requires
+choose-requires c κs = search needs
+
+returns : tie.Need-returns
+unfolding loop-pi ofBits round neg
+returns c = rw (c .choose .ensures, c .before .before .before .step-seconds .ensures, c .before .before .before .before .clamp .ensures)
+
+pub output-spec : {M : Type 1} → statement M
+output-spec = tie.close (tie.spec clamp-requires step-seconds-requires choose-requires returns)
