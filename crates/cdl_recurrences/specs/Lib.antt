@@ -1,1 +1,2 @@
 pub mod CdlRecurrences
+pub mod DeadBand

@@ -1,1 +1,3 @@
 pub mod Timing
+pub mod History
+pub mod SamplerHistory

@@ -1,10 +1,11 @@
 -- The machine compares the bits of an i64 with those of a literal: that is `==ᶻ`. Assumes nothing.
-use mathlib.Core.Path.{_≡_, refl}
+use mathlib.Core.Path.{_≡_, refl, sym, _∙_}
 use Prim.Native.Nat.{ℕ, suc, _-_, _^_, _<_}
 use native.Mathlib.Omega.{arith}
 use mathlib.Core.Bool.{Bool, true, false}
 use lib.IntN.{ℤ, pos, negsuc}
 use lib.Dec.{T, eqb, eqb→eq}
+use lib.Ieee.Fits.{eq→eqb}
 use mir.Syntax.{w64}
 use mir.Val.{SFits, ofZ}
 use Rattle.f64_helpers.specs.Integers.{_==ᶻ_}
@@ -12,10 +13,20 @@ use Rattle.f64_helpers.specs.Integers.{_==ᶻ_}
 far : (n k : ℕ) → n < 9223372036854775808 → k < 9223372036854775808 → 18446744073709551616 - suc n ≡ k → ⊥
 far n k p q e = omega arith
 
+refuted : (b : Bool) → (T b → ⊥) → b ≡ false
+refuted true h = absurd (h tt)
+refuted false h = refl
+
+shown : (b : Bool) → T b → b ≡ true
+shown true h = refl
+
 pub equals-literal : (z : ℤ) (k : ℕ) → SFits w64 z → k < 2 ^ 63 → eqb (ofZ w64 z) k ≡ (z ==ᶻ k)
 equals-literal (pos n) k f l = refl
-equals-literal (negsuc n) k f l = go (eqb (18446744073709551616 - suc n) k) (λ t. far n k (f .sfits) l (eqb→eq (18446744073709551616 - suc n) k t))
-  where
-    go : (b : Bool) → (T b → ⊥) → b ≡ false
-    go true h = absurd (h tt)
-    go false h = refl
+equals-literal (negsuc n) k f l = refuted (eqb (18446744073709551616 - suc n) k) (λ t. far n k (f .sfits) l (eqb→eq (18446744073709551616 - suc n) k t))
+
+-- the same, from what a branch on the test tells
+pub is-literal : (z : ℤ) (k : ℕ) → SFits w64 z → k < 2 ^ 63 → ofZ w64 z ≡ k → (z ==ᶻ k) ≡ true
+is-literal z k f l e = sym (equals-literal z k f l) ∙ shown (eqb (ofZ w64 z) k) (eq→eqb e)
+
+pub is-not-literal : (z : ℤ) (k : ℕ) → SFits w64 z → k < 2 ^ 63 → (ofZ w64 z ≡ k → ⊥) → (z ==ᶻ k) ≡ false
+is-not-literal z k f l e = sym (equals-literal z k f l) ∙ refuted (eqb (ofZ w64 z) k) (λ t. e (eqb→eq (ofZ w64 z) k t))

@@ -51,7 +51,7 @@ ceil-exact s m (negsuc k) t = round-whole binary64 s ((m * 1 + (2 ^ suc k - 1)) 
 
 -- ---- examples
 -- zeros of either sign, 0.3, -0.3, 2.5, -2.5, the smallest value, 1e6
-zeros : (s : Bool) → floor (fin s 0 (pos 0)) ≡ fin s 0 (pos 0)
+pub zeros : (s : Bool) → floor (fin s 0 (pos 0)) ≡ fin s 0 (pos 0)
 unfolding floor round
 zeros true = refl
 zeros false = refl

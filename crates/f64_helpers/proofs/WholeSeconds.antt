@@ -14,19 +14,19 @@ use lib.Ieee.Back.{round-whole}
 use lib.Ieee.Scale.{round-same}
 use Rattle.f64_helpers.specs.F64.{zero as zeroᶠ}
 use Rattle.f64_helpers.specs.Helpers.{larger, negative}
-use Rattle.f64_helpers.specs.Seconds.{Whole, seconds}
+use Rattle.f64_helpers.specs.Seconds.{Whole, seconds, NotNegative, seconds-up}
 
 pub zero-whole : Whole zeroᶠ 0
 zero-whole = (refl, λ q. absurd q)
 
 -- ---- rounding
-of-value : (x : Float) (s : Bool) (n : ℕ) → HasValue x s n 1 → (T s → n ≡ 0) → Whole x n
+pub of-value : (x : Float) (s : Bool) (n : ℕ) → HasValue x s n 1 → (T s → n ≡ 0) → Whole x n
 of-value nan s n v z = absurd v
 of-value (inf t) s n v z = absurd v
 of-value (fin t m e) s n v z = (sym (mul-one (m * up e)) ∙ v .1, λ q. z (subst T (v .0) q))
 
 -- a fraction a / c that is a whole number rounds to it
-round-to : (f : Format) (s : Bool) (a c n : ℕ) → 0 < c → n ≤ 2 ^ prec f → a ≡ n * c → (T s → n ≡ 0) → Whole (round f s a c) n
+pub round-to : (f : Format) (s : Bool) (a c n : ℕ) → 0 < c → n ≤ 2 ^ prec f → a ≡ n * c → (T s → n ≡ 0) → Whole (round f s a c) n
 round-to f s a c n C N e z =
     subst (λ (x : Float). Whole x n) (sym (round-same f s a c n 1 C (zero-lt-suc 0) (mul-one a ∙ e)))
     (of-value (round f s n 1) s n (round-whole f s n N) z)
@@ -201,18 +201,6 @@ larger-whole x y a b v w =
 abbrev pub Reach : Float → ℕ → Type 0
 Reach x d = (y : Float) (n : ℕ) → Whole y n → le x y ≡ leb d n
 
--- finite, and not below zero
-abbrev pub NotNegative : Float → Type 0
-NotNegative nan = ⊥
-NotNegative (inf s) = ⊥
-NotNegative (fin s m e) = T s → m ≡ 0
-
--- the least whole number that is not below x
-abbrev pub seconds-up : Float → ℕ
-seconds-up nan = 0
-seconds-up (inf s) = 0
-seconds-up (fin s m e) = (m * up e + (down e - 1)) / down e
-
 up-is : (a q n : ℕ) → 0 < q → (a ≤ n * q) ↔ ((a + (q - 1)) / q ≤ n)
 up-is a q n Q = (
   λ h. omega (arith, div-lt-iff-lt-mul {k = q} {x = a + (q - 1)} {y = suc n} Q .1 (omega (arith, suc-mul n q))),
@@ -232,7 +220,7 @@ or-r true q h = tt
 or-r false q h = h
 
 -- ±a ≤ ±b, where neither is below zero
-sizes : (s t : Bool) (a b : ℕ) → (T s → a ≡ 0) → (T t → b ≡ 0) → T (below s a t b || level s a t b) ↔ (a ≤ b)
+pub sizes : (s t : Bool) (a b : ℕ) → (T s → a ≡ 0) → (T t → b ≡ 0) → T (below s a t b || level s a t b) ↔ (a ≤ b)
 sizes s t a b y z = (λ h. either (below s a t b) (level s a t b) (a ≤ b) (lt-case s t y z) (λ k. omega (arith, eqb→eq a b (and-l (eqb a b) (Bool·beq s t || eqb a 0) k))) h, back (ltb a b) (ltb→lt a b) (nltb→le a b))
   where
     lt-case : (s t : Bool) → (T s → a ≡ 0) → (T t → b ≡ 0) → T (below s a t b) → a ≤ b

@@ -1,6 +1,6 @@
 -- Times as whole numbers of seconds: which f64 stands for which, and what a time is.
 use mathlib.Core.Path.{_≡_}
-use Prim.Native.Nat.{ℕ, _*_, _/_, _≤_}
+use Prim.Native.Nat.{ℕ, _+_, _-_, _*_, _/_, _≤_}
 use mathlib.Core.Bool.{Bool}
 use lib.Dec.{T}
 use lib.Ieee.{Float, nan, inf, fin, up, down}
@@ -20,3 +20,15 @@ seconds (fin s m e) = m * up e / down e
 -- a whole number of seconds from 0 to 2,147,483,648
 abbrev pub IsTime : Float → Type 0
 IsTime t = Whole t (seconds t) × (seconds t ≤ 2147483648)
+
+-- finite, and not below zero
+abbrev pub NotNegative : Float → Type 0
+NotNegative nan = ⊥
+NotNegative (inf s) = ⊥
+NotNegative (fin s m e) = T s → m ≡ 0
+
+-- the least whole number that is not below x
+abbrev pub seconds-up : Float → ℕ
+seconds-up nan = 0
+seconds-up (inf s) = 0
+seconds-up (fin s m e) = (m * up e + (down e - 1)) / down e

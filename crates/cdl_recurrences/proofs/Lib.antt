@@ -1,0 +1,2 @@
+pub mod DeadBandLaw
+pub mod SampleGrid

@@ -1,0 +1,124 @@
+-- What `ControllerState::output` of cooling_only_controller.rs returns: the next state beside the ten outputs, in that function's order of stages.
+use mathlib.Core.Bool.{Bool}
+use lib.IntN.{ℤ}
+use lib.Ieee.{Float}
+use Rattle.cooling_only_controller_conditioning.specs.Conditioning.{time-suppression, control-loops, setpoints, active-airflow, zone-states, fresh-time-suppression, fresh-control-loops, fresh-setpoints, fresh-zone-states}
+use Rattle.cooling_only_controller_conditioning.specs.declared.ControlLoopOutput.{ControlLoopOutput}
+use Rattle.cooling_only_controller_conditioning.specs.declared.SetpointInput.{SetpointInput}
+use Rattle.cooling_only_controller_conditioning.specs.declared.SetpointOutput.{SetpointOutput}
+use Rattle.cooling_only_controller_conditioning.specs.declared.ActiveAirflowOutput.{ActiveAirflowOutput}
+use Rattle.cooling_only_controller_airflow.specs.Airflow.{damper, system-requests, alarms, fresh-damper, fresh-system-requests, fresh-alarms}
+use Rattle.cooling_only_controller_airflow.specs.declared.DamperInput.{DamperInput}
+use Rattle.cooling_only_controller_airflow.specs.declared.DamperOutput.{DamperOutput}
+use Rattle.cooling_only_controller_airflow.specs.declared.SystemRequestInput.{SystemRequestInput}
+use Rattle.cooling_only_controller_airflow.specs.declared.SystemRequestOutput.{SystemRequestOutput}
+use Rattle.cooling_only_controller_airflow.specs.declared.AlarmInput.{AlarmInput}
+use Rattle.cooling_only_controller_airflow.specs.declared.AlarmOutput.{AlarmOutput}
+use Rattle.cooling_only_controller.specs.declared.ControllerInput.{ControllerInput}
+use Rattle.cooling_only_controller.specs.declared.ControllerOutput.{ControllerOutput}
+use Rattle.cooling_only_controller.specs.declared.ControllerState.{ControllerState}
+use Rattle.cooling_only_controller.specs.declared.ControllerStep.{ControllerStep}
+
+-- A fresh box: every flag false, every number 0, every time absent.
+abbrev pub fresh-controller : ControllerState
+fresh-controller =
+    record {
+      «time_suppression» = fresh-time-suppression;
+      «control_loops» = fresh-control-loops;
+      setpoints = fresh-setpoints;
+      «zone_states» = fresh-zone-states;
+      dampers = fresh-damper;
+      «system_requests» = fresh-system-requests;
+      alarms = fresh-alarms;
+    }
+
+-- ---- what the Rust hands to each stage
+
+abbrev pub setpoint-input : ControllerInput → SetpointInput
+setpoint-input input =
+    record {
+      «window_status» = input .«window_status»;
+      «occupancy_status» = input .«occupancy_status»;
+      «operating_mode» = input .«operating_mode»;
+      «co2_setpoint» = input .«co2_setpoint»;
+      «co2_concentration» = input .«co2_concentration»;
+      «zone_temperature» = input .«zone_temperature»;
+      «discharge_air_temperature» = input .«discharge_air_temperature»;
+    }
+
+abbrev pub damper-input : ControllerInput → ControlLoopOutput → ActiveAirflowOutput → ℤ → DamperInput
+damper-input input loops active zone-state =
+    record {
+      «active_minimum_flow» = active .minimum;
+      «supply_air_temperature» = input .«supply_air_temperature»;
+      «zone_temperature» = input .«zone_temperature»;
+      «cooling_loop» = loops .cooling;
+      «active_cooling_maximum_flow» = active .«cooling_maximum»;
+      «zone_state» = zone-state;
+      «airflow_override_index» = input .«airflow_override_index»;
+      «supply_fan_status» = input .«supply_fan_status»;
+      «discharge_airflow» = input .«discharge_airflow»;
+      «damper_override_index» = input .«damper_override_index»;
+    }
+
+abbrev pub request-input : ControllerInput → Bool → ControlLoopOutput → DamperOutput → SystemRequestInput
+request-input input after-suppression loops damper =
+    record {
+      «after_suppression» = after-suppression;
+      «cooling_setpoint» = input .«cooling_setpoint»;
+      «zone_temperature» = input .«zone_temperature»;
+      «cooling_loop» = loops .cooling;
+      «airflow_setpoint» = damper .«airflow_setpoint»;
+      «discharge_airflow» = input .«discharge_airflow»;
+      «damper_position» = damper .«damper_command»;
+    }
+
+abbrev pub alarm-input : ControllerInput → DamperOutput → AlarmInput
+alarm-input input damper =
+    record {
+      «discharge_airflow» = input .«discharge_airflow»;
+      «active_airflow_setpoint» = damper .«airflow_setpoint»;
+      «supply_fan_status» = input .«supply_fan_status»;
+      «operation_mode» = input .«operating_mode»;
+      «damper_position» = damper .«damper_command»;
+    }
+
+-- the ten outputs
+abbrev pub outputs : DamperOutput → SetpointOutput → SystemRequestOutput → AlarmOutput → ControllerOutput
+outputs damper setpoints requests alarms =
+    record {
+      «airflow_setpoint» = damper .«airflow_setpoint»;
+      «damper_command» = damper .«damper_command»;
+      «adjusted_population_flow» = setpoints .«adjusted_population_flow»;
+      «adjusted_area_flow» = setpoints .«adjusted_area_flow»;
+      «minimum_outdoor_airflow» = setpoints .«minimum_outdoor_airflow»;
+      «zone_temperature_reset_request» = requests .temperature;
+      «zone_pressure_reset_request» = requests .pressure;
+      «low_airflow_alarm» = alarms .«low_airflow»;
+      «airflow_sensor_alarm» = alarms .«airflow_sensor»;
+      «leaking_damper_alarm» = alarms .«leaking_damper»;
+    }
+
+-- Rust `ControllerState::output`. `delay-on-init` is that of the nine true delays of system requests and alarms; in the Rust it is false.
+unfoldable pub controller-output : ControllerState → Float → ControllerInput → Bool → ControllerStep
+controller-output s t input delay-on-init =
+    let after-suppression = time-suppression (s .«time_suppression») t (input .«cooling_setpoint») (input .«zone_temperature») in
+    let loops = control-loops (s .«control_loops») t (input .«cooling_setpoint») (input .«zone_temperature») (input .«heating_setpoint») in
+    let setpoints = setpoints (s .setpoints) (setpoint-input input) in
+    let active = active-airflow (input .«operating_mode») (setpoints .output .«occupied_minimum_flow») in
+    let zone-state = zone-states (s .«zone_states») (loops .output .heating) (loops .output .cooling) in
+    let damper = damper (s .dampers) t (damper-input input (loops .output) active (zone-state .output)) in
+    let requests = system-requests (s .«system_requests») t (request-input input (after-suppression .output) (loops .output) (damper .output)) delay-on-init in
+    let alarms = alarms (s .alarms) t (alarm-input input (damper .output)) delay-on-init in
+    record {
+      state = record {
+        «time_suppression» = after-suppression .state;
+        «control_loops» = loops .state;
+        setpoints = setpoints .state;
+        «zone_states» = zone-state .state;
+        dampers = damper .state;
+        «system_requests» = requests .state;
+        alarms = alarms .state;
+      };
+      output = outputs (damper .output) (setpoints .output) (requests .output) (alarms .output);
+    }

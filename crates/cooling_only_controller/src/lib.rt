@@ -1,0 +1,229 @@
+// The whole controller of cooling_only_controller.rs: its records, and `output` in its order of stages.
+ghost use mathlib.Core.Path.{_≡_};
+ghost use Rattle.cooling_only_controller.specs.Controller as Controller;
+use cooling_only_controller_airflow::AlarmInput;
+use cooling_only_controller_airflow::AlarmOutput;
+use cooling_only_controller_airflow::AlarmsState;
+use cooling_only_controller_airflow::DamperInput;
+use cooling_only_controller_airflow::DamperOutput;
+use cooling_only_controller_airflow::DamperState;
+use cooling_only_controller_airflow::SystemRequestInput;
+use cooling_only_controller_airflow::SystemRequestOutput;
+use cooling_only_controller_airflow::SystemRequestsState;
+use cooling_only_controller_conditioning::ActiveAirflowOutput;
+use cooling_only_controller_conditioning::ControlLoopOutput;
+use cooling_only_controller_conditioning::ControlLoopsState;
+use cooling_only_controller_conditioning::SetpointInput;
+use cooling_only_controller_conditioning::SetpointOutput;
+use cooling_only_controller_conditioning::SetpointsState;
+use cooling_only_controller_conditioning::TimeSuppressionState;
+use cooling_only_controller_conditioning::ZoneStatesState;
+
+pub struct ControllerInput {
+    pub zone_temperature: f64,
+    pub cooling_setpoint: f64,
+    pub heating_setpoint: f64,
+    pub window_status: bool,
+    pub occupancy_status: bool,
+    pub operating_mode: i64,
+    pub co2_setpoint: f64,
+    pub co2_concentration: f64,
+    pub discharge_air_temperature: f64,
+    pub supply_air_temperature: f64,
+    pub discharge_airflow: f64,
+    pub airflow_override_index: i64,
+    pub damper_override_index: i64,
+    pub supply_fan_status: bool,
+}
+
+pub struct ControllerOutput {
+    pub airflow_setpoint: f64,
+    pub damper_command: f64,
+    pub adjusted_population_flow: f64,
+    pub adjusted_area_flow: f64,
+    pub minimum_outdoor_airflow: f64,
+    pub zone_temperature_reset_request: i64,
+    pub zone_pressure_reset_request: i64,
+    pub low_airflow_alarm: i64,
+    pub airflow_sensor_alarm: i64,
+    pub leaking_damper_alarm: i64,
+}
+
+pub struct ControllerState {
+    pub time_suppression: TimeSuppressionState,
+    pub control_loops: ControlLoopsState,
+    pub setpoints: SetpointsState,
+    pub zone_states: ZoneStatesState,
+    pub dampers: DamperState,
+    pub system_requests: SystemRequestsState,
+    pub alarms: AlarmsState,
+}
+
+pub struct ControllerStep {
+    pub state: ControllerState,
+    pub output: ControllerOutput,
+}
+
+impl ControllerState {
+    pub fn fresh() -> ControllerState
+        ensures { λ r. ⌜ r ≡ Controller.fresh-controller ⌝ }
+    {
+        let time_suppression = TimeSuppressionState::fresh();
+        let control_loops = ControlLoopsState::fresh();
+        let setpoints = SetpointsState::fresh();
+        let zone_states = ZoneStatesState::fresh();
+        let dampers = DamperState::fresh();
+        let system_requests = SystemRequestsState::fresh();
+        let alarms = AlarmsState::fresh();
+        ControllerState {
+            time_suppression,
+            control_loops,
+            setpoints,
+            zone_states,
+            dampers,
+            system_requests,
+            alarms,
+        }
+    }
+
+    // `delay_on_init` is that of the nine true delays of system requests and alarms.
+    pub fn output(self, t: f64, input: ControllerInput, delay_on_init: bool) -> ControllerStep
+        ensures { λ r. ⌜ r ≡ Controller.controller-output self t input «delay_on_init» ⌝ }
+    {
+        let suppressed = self.time_suppression
+            .output(t, input.cooling_setpoint, input.zone_temperature);
+        let loops = self.control_loops.output(
+            t,
+            input.cooling_setpoint,
+            input.zone_temperature,
+            input.heating_setpoint,
+        );
+        let loop_output = loops.output;
+        let setpoints = self.setpoints.output(setpoint_input(input));
+        let flows = setpoints.output;
+        let active = cooling_only_controller_conditioning::active_airflow(
+            input.operating_mode,
+            flows.occupied_minimum_flow,
+        );
+        let zone = self.zone_states
+            .output(loop_output.heating, loop_output.cooling);
+        let damper = self.dampers
+            .output(t, damper_input(input, loop_output, active, zone.output));
+        let air = damper.output;
+        let wanted = request_input(input, suppressed.output, loop_output, air);
+        let requests = self.system_requests.output(t, wanted, delay_on_init);
+        let alarms = self.alarms
+            .output(t, alarm_input(input, air), delay_on_init);
+        let time_suppression = suppressed.state;
+        let control_loops = loops.state;
+        let setpoints_state = setpoints.state;
+        let zone_states = zone.state;
+        let dampers = damper.state;
+        let system_requests = requests.state;
+        let alarms_state = alarms.state;
+        let levels = requests.output;
+        let alarm = alarms.output;
+        let output = controller_output(air, flows, levels, alarm);
+        ControllerStep {
+            state: ControllerState {
+                time_suppression,
+                control_loops,
+                setpoints: setpoints_state,
+                zone_states,
+                dampers,
+                system_requests,
+                alarms: alarms_state,
+            },
+            output,
+        }
+    }
+}
+
+fn setpoint_input(input: ControllerInput) -> SetpointInput
+    ensures { λ r. ⌜ r ≡ Controller.setpoint-input input ⌝ }
+{
+    SetpointInput {
+        window_status: input.window_status,
+        occupancy_status: input.occupancy_status,
+        operating_mode: input.operating_mode,
+        co2_setpoint: input.co2_setpoint,
+        co2_concentration: input.co2_concentration,
+        zone_temperature: input.zone_temperature,
+        discharge_air_temperature: input.discharge_air_temperature,
+    }
+}
+
+fn damper_input(
+    input: ControllerInput,
+    loops: ControlLoopOutput,
+    active: ActiveAirflowOutput,
+    zone_state: i64,
+) -> DamperInput
+    ensures { λ r. ⌜ r ≡ Controller.damper-input input loops active «zone_state» ⌝ }
+{
+    DamperInput {
+        active_minimum_flow: active.minimum,
+        supply_air_temperature: input.supply_air_temperature,
+        zone_temperature: input.zone_temperature,
+        cooling_loop: loops.cooling,
+        active_cooling_maximum_flow: active.cooling_maximum,
+        zone_state,
+        airflow_override_index: input.airflow_override_index,
+        supply_fan_status: input.supply_fan_status,
+        discharge_airflow: input.discharge_airflow,
+        damper_override_index: input.damper_override_index,
+    }
+}
+
+fn request_input(
+    input: ControllerInput,
+    after_suppression: bool,
+    loops: ControlLoopOutput,
+    damper: DamperOutput,
+) -> SystemRequestInput
+    ensures { λ r. ⌜ r ≡ Controller.request-input input «after_suppression» loops damper ⌝ }
+{
+    SystemRequestInput {
+        after_suppression,
+        cooling_setpoint: input.cooling_setpoint,
+        zone_temperature: input.zone_temperature,
+        cooling_loop: loops.cooling,
+        airflow_setpoint: damper.airflow_setpoint,
+        discharge_airflow: input.discharge_airflow,
+        damper_position: damper.damper_command,
+    }
+}
+
+fn alarm_input(input: ControllerInput, damper: DamperOutput) -> AlarmInput
+    ensures { λ r. ⌜ r ≡ Controller.alarm-input input damper ⌝ }
+{
+    AlarmInput {
+        discharge_airflow: input.discharge_airflow,
+        active_airflow_setpoint: damper.airflow_setpoint,
+        supply_fan_status: input.supply_fan_status,
+        operation_mode: input.operating_mode,
+        damper_position: damper.damper_command,
+    }
+}
+
+fn controller_output(
+    damper: DamperOutput,
+    setpoints: SetpointOutput,
+    requests: SystemRequestOutput,
+    alarms: AlarmOutput,
+) -> ControllerOutput
+    ensures { λ r. ⌜ r ≡ Controller.outputs damper setpoints requests alarms ⌝ }
+{
+    ControllerOutput {
+        airflow_setpoint: damper.airflow_setpoint,
+        damper_command: damper.damper_command,
+        adjusted_population_flow: setpoints.adjusted_population_flow,
+        adjusted_area_flow: setpoints.adjusted_area_flow,
+        minimum_outdoor_airflow: setpoints.minimum_outdoor_airflow,
+        zone_temperature_reset_request: requests.temperature,
+        zone_pressure_reset_request: requests.pressure,
+        low_airflow_alarm: alarms.low_airflow,
+        airflow_sensor_alarm: alarms.airflow_sensor,
+        leaking_damper_alarm: alarms.leaking_damper,
+    }
+}

@@ -1,0 +1,15 @@
+-- `cooling_only_controller_airflow::low_airflow_level` meets its contract. Assumes nothing.
+use Rattle.cooling_only_controller_airflow.proofs.low_airflow_level.Statement.{statement}
+use Rattle.cooling_only_controller_airflow.proofs.low_airflow_level.Tie as tie
+
+returns : tie.Need-returns
+returns c = rw (c .if1 .taken)
+
+returns-2 : tie.Need-returns-2
+returns-2 c = rw (c .before .if1 .left, c .if2 .taken)
+
+returns-3 : tie.Need-returns-3
+returns-3 c = rw (c .before .if1 .left, c .if2 .left)
+
+pub low-airflow-level-spec : {M : Type 1} → statement M
+low-airflow-level-spec = tie.close (tie.spec returns returns-2 returns-3)

@@ -1,0 +1,278 @@
+-- What the stages of cooling_only_controller_airflow.rs return: the next state beside the output, in that file's order.
+-- `delay-on-init` is false in the Rust; a quiet start runs the nine true delays of system requests and alarms with true.
+use mathlib.Core.Bool.{Bool, true, false, not, _&&_}
+use lib.IntN.{ℤ, pos}
+use lib.Ieee.{Float}
+use Rattle.f64_helpers.specs.F64.{_⊕_, _⊖_, _⊗_, _⊘_, decimal, zero, if_then_else_}
+use Rattle.f64_helpers.specs.Integers.{_==ᶻ_}
+use Rattle.cdl_recurrences.specs.CdlRecurrences.{buildings-line, clamp, greater-hysteretic, hysteresis, less-hysteretic}
+use Rattle.cdl_recurrences.specs.declared.OptionalTime.{OptionalTime}
+use Rattle.cdl_recurrences.specs.declared.OptionalTime.the-variants.{Absent, At}
+use Rattle.cooling_only_controller_timing.specs.Timing.{sampler-sample, true-delay, step-seconds, fresh-sampler, fresh-true-delay}
+use Rattle.cooling_only_controller_airflow.specs.declared.DamperInput.{DamperInput}
+use Rattle.cooling_only_controller_airflow.specs.declared.DamperState.{DamperState}
+use Rattle.cooling_only_controller_airflow.specs.declared.DamperStep.{DamperStep}
+use Rattle.cooling_only_controller_airflow.specs.declared.SystemRequestInput.{SystemRequestInput}
+use Rattle.cooling_only_controller_airflow.specs.declared.SystemRequestsState.{SystemRequestsState}
+use Rattle.cooling_only_controller_airflow.specs.declared.SystemRequestsStep.{SystemRequestsStep}
+use Rattle.cooling_only_controller_airflow.specs.declared.TemperatureRequestStep.{TemperatureRequestStep}
+use Rattle.cooling_only_controller_airflow.specs.declared.PressureRequestStep.{PressureRequestStep}
+use Rattle.cooling_only_controller_airflow.specs.declared.AlarmInput.{AlarmInput}
+use Rattle.cooling_only_controller_airflow.specs.declared.AlarmsState.{AlarmsState}
+use Rattle.cooling_only_controller_airflow.specs.declared.AlarmsStep.{AlarmsStep}
+use Rattle.cooling_only_controller_airflow.specs.declared.LowAirflowStep.{LowAirflowStep}
+use Rattle.cooling_only_controller_airflow.specs.declared.SensorLeakStep.{SensorLeakStep}
+
+-- ---- the Rust's constants
+
+abbrev pub DESIGN_MINIMUM_FLOW : Float
+DESIGN_MINIMUM_FLOW = decimal 5 10
+
+abbrev pub DESIGN_COOLING_MAXIMUM_FLOW : Float
+DESIGN_COOLING_MAXIMUM_FLOW = decimal 15 10
+
+abbrev pub TEMPERATURE_HYSTERESIS : Float
+TEMPERATURE_HYSTERESIS = decimal 25 100
+
+abbrev pub FLOW_HYSTERESIS : Float
+FLOW_HYSTERESIS = decimal 1 100
+
+abbrev pub DAMPER_POSITION_HYSTERESIS : Float
+DAMPER_POSITION_HYSTERESIS = decimal 1 100
+
+abbrev pub SAMPLE_PERIOD : Float
+SAMPLE_PERIOD = decimal 120 1
+
+-- ---- Rust `DamperState`
+
+abbrev pub fresh-damper : DamperState
+fresh-damper = record { «supply_warm» = false; integrator = zero; «previous_time» = Absent; «previous_fan» = false }
+
+-- The match on `airflow_override_index` in Rust `DamperState::output`
+unfoldable pub airflow-override : ℤ → Float → Float
+airflow-override index base =
+    if index ==ᶻ 1 then zero
+    else if index ==ᶻ 2 then DESIGN_COOLING_MAXIMUM_FLOW
+    else if index ==ᶻ 3 then DESIGN_MINIMUM_FLOW
+    else base
+
+-- The match on `damper_override_index` in Rust `DamperState::output`
+unfoldable pub damper-override : ℤ → Float → Float
+damper-override index pid-output =
+    if index ==ᶻ 1 then zero
+    else if index ==ᶻ 2 then decimal 1 1
+    else pid-output
+
+-- The `airflow_setpoint` of Rust `DamperState::output`
+unfoldable pub airflow-setpoint : DamperInput → Bool → Float
+airflow-setpoint input supply-warm =
+    let mapped = buildings-line zero (input .«active_minimum_flow») (decimal 1 1) (input .«active_cooling_maximum_flow») (input .«cooling_loop») in
+    let active = if supply-warm then input .«active_minimum_flow» else mapped in
+    let base = if input .«zone_state» ==ᶻ 3 then active else input .«active_minimum_flow» in
+    airflow-override (input .«airflow_override_index») base
+
+-- Rust `DamperState::output`. The command is formed with the old integrator; on a fan's rising edge the new one is 0.01 - proportional.
+unfoldable pub damper : DamperState → Float → DamperInput → DamperStep
+damper s t input =
+    let supply-warm = greater-hysteretic (input .«supply_air_temperature») (input .«zone_temperature») TEMPERATURE_HYSTERESIS (s .«supply_warm») in
+    let airflow-setpoint = airflow-setpoint input supply-warm in
+    let normalized-setpoint = airflow-setpoint ⊘ DESIGN_COOLING_MAXIMUM_FLOW in
+    let normalized-measurement = input .«discharge_airflow» ⊘ DESIGN_COOLING_MAXIMUM_FLOW in
+    let error = normalized-setpoint ⊖ normalized-measurement in
+    let proportional = decimal 5 10 ⊗ error in
+    let unlimited = proportional ⊕ s .integrator in
+    let pid-output = clamp unlimited zero (decimal 1 1) in
+    let dt = step-seconds (s .«previous_time») t in
+    let anti-windup = (unlimited ⊖ pid-output) ⊘ (decimal 5 10 ⊗ decimal 9 10) in
+    let integrator =
+    if input .«supply_fan_status» && not (s .«previous_fan») then decimal 1 100 ⊖ proportional
+    else s .integrator ⊕ (decimal 5 10 ⊘ decimal 300 1) ⊗ (error ⊖ anti-windup) ⊗ dt
+    in
+    record {
+      state = record { «supply_warm» = supply-warm; integrator = integrator; «previous_time» = At t; «previous_fan» = input .«supply_fan_status» };
+      output = record { «airflow_setpoint» = airflow-setpoint; «damper_command» = damper-override (input .«damper_override_index») pid-output };
+    }
+
+-- ---- Rust `SystemRequestsState`
+
+abbrev pub fresh-system-requests : SystemRequestsState
+fresh-system-requests =
+    record {
+      «hot_three» = false;
+      «hot_two» = false;
+      «hot_three_delay» = fresh-true-delay;
+      «hot_two_delay» = fresh-true-delay;
+      «cooling_sampler» = fresh-sampler;
+      «setpoint_sampler» = fresh-sampler;
+      «discharge_sampler» = fresh-sampler;
+      «damper_sampler» = fresh-sampler;
+      «cooling_high» = false;
+      «setpoint_on» = false;
+      «damper_high» = false;
+      «damper_delay» = fresh-true-delay;
+      «starved_half» = false;
+      «starved_seventy» = false;
+    }
+
+-- Rust `request_level`
+abbrev pub request-level : Bool → Bool → Bool → ℤ
+request-level three two one = if three then pos 3 else if two then pos 2 else if one then pos 1 else pos 0
+
+-- Rust `SystemRequestsState::output`, down to `temperature`
+unfoldable pub temperature-request : SystemRequestsState → Float → SystemRequestInput → Bool → TemperatureRequestStep
+temperature-request s t input delay-on-init =
+    let temperature-difference = input .«zone_temperature» ⊖ input .«cooling_setpoint» in
+    let hot-three = hysteresis temperature-difference (decimal 275 100) (decimal 3 1) (s .«hot_three») in
+    let hot-two = hysteresis temperature-difference (decimal 175 100) (decimal 2 1) (s .«hot_two») in
+    let hot-three-held = true-delay (s .«hot_three_delay») t hot-three (decimal 120 1) delay-on-init in
+    let hot-two-held = true-delay (s .«hot_two_delay») t hot-two (decimal 120 1) delay-on-init in
+    let sampled-cooling = sampler-sample (s .«cooling_sampler») t (input .«cooling_loop») SAMPLE_PERIOD in
+    let cooling-high = hysteresis (sampled-cooling .output) (decimal 94 100) (decimal 95 100) (s .«cooling_high») in
+    record {
+      «hot_three» = hot-three;
+      «hot_two» = hot-two;
+      «hot_three_delay» = hot-three-held .state;
+      «hot_two_delay» = hot-two-held .state;
+      «cooling_sampler» = sampled-cooling .state;
+      «cooling_high» = cooling-high;
+      temperature = request-level (input .«after_suppression» && hot-three-held .output) (input .«after_suppression» && hot-two-held .output) cooling-high;
+    }
+
+-- Rust `SystemRequestsState::output`, from there on
+unfoldable pub pressure-request : SystemRequestsState → Float → SystemRequestInput → Bool → PressureRequestStep
+pressure-request s t input delay-on-init =
+    let sampled-setpoint = sampler-sample (s .«setpoint_sampler») t (input .«airflow_setpoint») SAMPLE_PERIOD in
+    let sampled-discharge = sampler-sample (s .«discharge_sampler») t (input .«discharge_airflow») SAMPLE_PERIOD in
+    let sampled-damper = sampler-sample (s .«damper_sampler») t (input .«damper_position») SAMPLE_PERIOD in
+    let setpoint-on = hysteresis (sampled-setpoint .output) (decimal 5 1000) (decimal 1 100) (s .«setpoint_on») in
+    let damper-high = hysteresis (sampled-damper .output) (decimal 94 100) (decimal 95 100) (s .«damper_high») in
+    let damper-held = true-delay (s .«damper_delay») t damper-high (decimal 60 1) delay-on-init in
+    let starved-half = greater-hysteretic (decimal 5 10 ⊗ sampled-setpoint .output) (sampled-discharge .output) FLOW_HYSTERESIS (s .«starved_half») in
+    let starved-seventy = greater-hysteretic (decimal 7 10 ⊗ sampled-setpoint .output) (sampled-discharge .output) FLOW_HYSTERESIS (s .«starved_seventy») in
+    let gate = setpoint-on && damper-held .output in
+    record {
+      «setpoint_sampler» = sampled-setpoint .state;
+      «discharge_sampler» = sampled-discharge .state;
+      «damper_sampler» = sampled-damper .state;
+      «setpoint_on» = setpoint-on;
+      «damper_high» = damper-high;
+      «damper_delay» = damper-held .state;
+      «starved_half» = starved-half;
+      «starved_seventy» = starved-seventy;
+      pressure = request-level (gate && starved-half) (gate && starved-seventy) damper-high;
+    }
+
+abbrev pub system-requests-step : TemperatureRequestStep → PressureRequestStep → SystemRequestsStep
+system-requests-step temperature pressure =
+    record {
+      state = record {
+        «hot_three» = temperature .«hot_three»;
+        «hot_two» = temperature .«hot_two»;
+        «hot_three_delay» = temperature .«hot_three_delay»;
+        «hot_two_delay» = temperature .«hot_two_delay»;
+        «cooling_sampler» = temperature .«cooling_sampler»;
+        «setpoint_sampler» = pressure .«setpoint_sampler»;
+        «discharge_sampler» = pressure .«discharge_sampler»;
+        «damper_sampler» = pressure .«damper_sampler»;
+        «cooling_high» = temperature .«cooling_high»;
+        «setpoint_on» = pressure .«setpoint_on»;
+        «damper_high» = pressure .«damper_high»;
+        «damper_delay» = pressure .«damper_delay»;
+        «starved_half» = pressure .«starved_half»;
+        «starved_seventy» = pressure .«starved_seventy»;
+      };
+      output = record { temperature = temperature .temperature; pressure = pressure .pressure };
+    }
+
+-- Rust `SystemRequestsState::output`
+unfoldable pub system-requests : SystemRequestsState → Float → SystemRequestInput → Bool → SystemRequestsStep
+system-requests s t input delay-on-init = system-requests-step (temperature-request s t input delay-on-init) (pressure-request s t input delay-on-init)
+
+-- ---- Rust `AlarmsState`
+
+abbrev pub fresh-alarms : AlarmsState
+fresh-alarms =
+    record {
+      «fan_armed» = fresh-true-delay;
+      «setpoint_nonzero» = false;
+      «setpoint_on» = fresh-true-delay;
+      «low_half» = false;
+      «low_seventy» = false;
+      «low_half_delay» = fresh-true-delay;
+      «low_seventy_delay» = fresh-true-delay;
+      «flow_high» = false;
+      «sensor_delay» = fresh-true-delay;
+      «damper_closed» = false;
+      «leak_delay» = fresh-true-delay;
+    }
+
+abbrev pub low-airflow-level : Bool → Bool → ℤ
+low-airflow-level level-two level-three = if level-two then pos 2 else if level-three then pos 3 else pos 0
+
+-- Rust's `if on { level } else { 0 }`
+abbrev pub alarm-level : Bool → ℤ → ℤ
+alarm-level on level = if on then level else pos 0
+
+-- Rust `AlarmsState::output`, down to `low_airflow`. Both low-flow memories are stored before the fan's arming enters.
+unfoldable pub low-airflow-alarm : AlarmsState → Float → AlarmInput → Bool → LowAirflowStep
+low-airflow-alarm s t input delay-on-init =
+    let occupied = input .«operation_mode» ==ᶻ 1 in
+    let fan-armed = true-delay (s .«fan_armed») t (input .«supply_fan_status») (decimal 1800 1) delay-on-init in
+    let setpoint-nonzero = hysteresis (input .«active_airflow_setpoint») (decimal 5 1000) (decimal 1 100) (s .«setpoint_nonzero») in
+    let setpoint-on = true-delay (s .«setpoint_on») t setpoint-nonzero (decimal 300 1) delay-on-init in
+    let low-half = less-hysteretic (input .«discharge_airflow») (decimal 5 10 ⊗ input .«active_airflow_setpoint») FLOW_HYSTERESIS (s .«low_half») in
+    let low-seventy = greater-hysteretic (decimal 7 10 ⊗ input .«active_airflow_setpoint») (input .«discharge_airflow») FLOW_HYSTERESIS (s .«low_seventy») in
+    let low-half-held = true-delay (s .«low_half_delay») t (low-half && fan-armed .output) (decimal 300 1) delay-on-init in
+    let low-seventy-held = true-delay (s .«low_seventy_delay») t (low-seventy && fan-armed .output) (decimal 300 1) delay-on-init in
+    let level-two = low-half-held .output && setpoint-on .output && occupied in
+    let level-three = low-seventy-held .output && setpoint-on .output && occupied in
+    record {
+      «fan_armed» = fan-armed .state;
+      «setpoint_nonzero» = setpoint-nonzero;
+      «setpoint_on» = setpoint-on .state;
+      «low_half» = low-half;
+      «low_seventy» = low-seventy;
+      «low_half_delay» = low-half-held .state;
+      «low_seventy_delay» = low-seventy-held .state;
+      «low_airflow» = low-airflow-level level-two level-three;
+    }
+
+-- Rust `AlarmsState::output`, from there on
+unfoldable pub sensor-leak-alarms : AlarmsState → Float → AlarmInput → Bool → SensorLeakStep
+sensor-leak-alarms s t input delay-on-init =
+    let occupied = input .«operation_mode» ==ᶻ 1 in
+    let flow-high = greater-hysteretic (input .«discharge_airflow») (decimal 1 10 ⊗ DESIGN_COOLING_MAXIMUM_FLOW) FLOW_HYSTERESIS (s .«flow_high») in
+    let sensor-held = true-delay (s .«sensor_delay») t (flow-high && not (input .«supply_fan_status»)) (decimal 600 1) delay-on-init in
+    let damper-closed = less-hysteretic (input .«damper_position») DAMPER_POSITION_HYSTERESIS (decimal 5 10 ⊗ DAMPER_POSITION_HYSTERESIS) (s .«damper_closed») in
+    let leak-held = true-delay (s .«leak_delay») t (input .«supply_fan_status» && damper-closed && flow-high) (decimal 600 1) delay-on-init in
+    record {
+      «flow_high» = flow-high;
+      «sensor_delay» = sensor-held .state;
+      «airflow_sensor» = alarm-level (sensor-held .output && occupied) (pos 3);
+      «damper_closed» = damper-closed;
+      «leak_delay» = leak-held .state;
+      «leaking_damper» = alarm-level (leak-held .output) (pos 4);
+    }
+
+abbrev pub alarms-step : LowAirflowStep → SensorLeakStep → AlarmsStep
+alarms-step low sensor-leak =
+    record {
+      state = record {
+        «fan_armed» = low .«fan_armed»;
+        «setpoint_nonzero» = low .«setpoint_nonzero»;
+        «setpoint_on» = low .«setpoint_on»;
+        «low_half» = low .«low_half»;
+        «low_seventy» = low .«low_seventy»;
+        «low_half_delay» = low .«low_half_delay»;
+        «low_seventy_delay» = low .«low_seventy_delay»;
+        «flow_high» = sensor-leak .«flow_high»;
+        «sensor_delay» = sensor-leak .«sensor_delay»;
+        «damper_closed» = sensor-leak .«damper_closed»;
+        «leak_delay» = sensor-leak .«leak_delay»;
+      };
+      output = record { «low_airflow» = low .«low_airflow»; «airflow_sensor» = sensor-leak .«airflow_sensor»; «leaking_damper» = sensor-leak .«leaking_damper» };
+    }
+
+-- Rust `AlarmsState::output`
+unfoldable pub alarms : AlarmsState → Float → AlarmInput → Bool → AlarmsStep
+alarms s t input delay-on-init = alarms-step (low-airflow-alarm s t input delay-on-init) (sensor-leak-alarms s t input delay-on-init)

@@ -1,0 +1,602 @@
+// Airflow, system requests and alarms, as in cooling_only_controller_airflow.rs.
+ghost use mathlib.Core.Path.{_≡_};
+ghost use Rattle.cooling_only_controller_airflow.specs.Airflow as Airflow;
+use cdl_recurrences::OptionalTime;
+use cdl_recurrences::greater_hysteretic;
+use cdl_recurrences::hysteresis;
+use cdl_recurrences::less_hysteretic;
+use cooling_only_controller_timing::SamplerState;
+use cooling_only_controller_timing::TrueDelayState;
+
+const DESIGN_MINIMUM_FLOW: f64 = 0.5;
+
+const DESIGN_COOLING_MAXIMUM_FLOW: f64 = 1.5;
+
+const TEMPERATURE_HYSTERESIS: f64 = 0.25;
+
+const FLOW_HYSTERESIS: f64 = 0.01;
+
+const DAMPER_POSITION_HYSTERESIS: f64 = 0.01;
+
+const SAMPLE_PERIOD: f64 = 120.0;
+
+pub struct DamperInput {
+    pub active_minimum_flow: f64,
+    pub supply_air_temperature: f64,
+    pub zone_temperature: f64,
+    pub cooling_loop: f64,
+    pub active_cooling_maximum_flow: f64,
+    pub zone_state: i64,
+    pub airflow_override_index: i64,
+    pub supply_fan_status: bool,
+    pub discharge_airflow: f64,
+    pub damper_override_index: i64,
+}
+
+pub struct DamperOutput {
+    pub airflow_setpoint: f64,
+    pub damper_command: f64,
+}
+
+pub struct DamperState {
+    pub supply_warm: bool,
+    pub integrator: f64,
+    pub previous_time: OptionalTime,
+    pub previous_fan: bool,
+}
+
+pub struct DamperStep {
+    pub state: DamperState,
+    pub output: DamperOutput,
+}
+
+impl DamperState {
+    pub fn fresh() -> DamperState
+        ensures { λ r. ⌜ r ≡ Airflow.fresh-damper ⌝ }
+    {
+        DamperState {
+            supply_warm: false,
+            integrator: 0.0,
+            previous_time: OptionalTime::Absent,
+            previous_fan: false,
+        }
+    }
+
+    // The PI's output is formed with the old integrator, which a starting fan resets.
+    pub fn output(self, t: f64, input: DamperInput) -> DamperStep
+        ensures { λ r. ⌜ r ≡ Airflow.damper self t input ⌝ }
+    {
+        let supply_warm = greater_hysteretic(
+            input.supply_air_temperature,
+            input.zone_temperature,
+            TEMPERATURE_HYSTERESIS,
+            self.supply_warm,
+        );
+        let airflow_setpoint = airflow_setpoint(input, supply_warm);
+        let normalized_setpoint = airflow_setpoint / DESIGN_COOLING_MAXIMUM_FLOW;
+        let normalized_measurement = input.discharge_airflow / DESIGN_COOLING_MAXIMUM_FLOW;
+        let error = normalized_setpoint - normalized_measurement;
+        let proportional = 0.5 * error;
+        let unlimited = proportional + self.integrator;
+        let pid_output = cdl_recurrences::clamp(unlimited, 0.0, 1.0);
+        let previous_time = self.previous_time;
+        let dt = cooling_only_controller_timing::step_seconds(previous_time, t);
+        let anti_windup = (unlimited - pid_output) / (0.5 * 0.9);
+        let integrator = f64_helpers::choose(
+            input.supply_fan_status & !self.previous_fan,
+            0.01 - proportional,
+            self.integrator + (0.5 / 300.0) * (error - anti_windup) * dt,
+        );
+        let damper_command = damper_override(input.damper_override_index, pid_output);
+        DamperStep {
+            state: DamperState {
+                supply_warm,
+                integrator,
+                previous_time: OptionalTime::At(t),
+                previous_fan: input.supply_fan_status,
+            },
+            output: DamperOutput {
+                airflow_setpoint,
+                damper_command,
+            },
+        }
+    }
+}
+
+// The setpoint that the cooling loop asks for in the cooling state with cool supply air, else the minimum; an override comes first.
+fn airflow_setpoint(input: DamperInput, supply_warm: bool) -> f64
+    ensures { λ r. ⌜ r ≡ Airflow.airflow-setpoint input «supply_warm» ⌝ }
+{
+    let mapped = cdl_recurrences::buildings_line(
+        0.0,
+        input.active_minimum_flow,
+        1.0,
+        input.active_cooling_maximum_flow,
+        input.cooling_loop,
+    );
+    let active = f64_helpers::choose(supply_warm, input.active_minimum_flow, mapped);
+    let base = f64_helpers::choose(input.zone_state == 3, active, input.active_minimum_flow);
+    airflow_override(input.airflow_override_index, base)
+}
+
+// Override 1 closes, 2 and 3 ask for the design maximum and minimum; any other index leaves the base.
+pub fn airflow_override(index: i64, base: f64) -> f64
+    ensures { λ r. ⌜ r ≡ Airflow.airflow-override index base ⌝ }
+{
+    if index == 1 {
+        0.0
+    } else if index == 2 {
+        DESIGN_COOLING_MAXIMUM_FLOW
+    } else if index == 3 {
+        DESIGN_MINIMUM_FLOW
+    } else {
+        base
+    }
+}
+
+// Override 1 closes, 2 opens; any other index leaves the PI's output.
+pub fn damper_override(index: i64, pid_output: f64) -> f64
+    ensures { λ r. ⌜ r ≡ Airflow.damper-override index «pid_output» ⌝ }
+{
+    if index == 1 {
+        0.0
+    } else if index == 2 {
+        1.0
+    } else {
+        pid_output
+    }
+}
+
+pub struct SystemRequestInput {
+    pub after_suppression: bool,
+    pub cooling_setpoint: f64,
+    pub zone_temperature: f64,
+    pub cooling_loop: f64,
+    pub airflow_setpoint: f64,
+    pub discharge_airflow: f64,
+    pub damper_position: f64,
+}
+
+pub struct SystemRequestOutput {
+    pub temperature: i64,
+    pub pressure: i64,
+}
+
+pub struct SystemRequestsState {
+    pub hot_three: bool,
+    pub hot_two: bool,
+    pub hot_three_delay: TrueDelayState,
+    pub hot_two_delay: TrueDelayState,
+    pub cooling_sampler: SamplerState,
+    pub setpoint_sampler: SamplerState,
+    pub discharge_sampler: SamplerState,
+    pub damper_sampler: SamplerState,
+    pub cooling_high: bool,
+    pub setpoint_on: bool,
+    pub damper_high: bool,
+    pub damper_delay: TrueDelayState,
+    pub starved_half: bool,
+    pub starved_seventy: bool,
+}
+
+pub struct SystemRequestsStep {
+    pub state: SystemRequestsState,
+    pub output: SystemRequestOutput,
+}
+
+// The memories of the temperature request after a tick, and its level.
+struct TemperatureRequestStep {
+    hot_three: bool,
+    hot_two: bool,
+    hot_three_delay: TrueDelayState,
+    hot_two_delay: TrueDelayState,
+    cooling_sampler: SamplerState,
+    cooling_high: bool,
+    temperature: i64,
+}
+
+// The memories of the pressure request after a tick, and its level.
+struct PressureRequestStep {
+    setpoint_sampler: SamplerState,
+    discharge_sampler: SamplerState,
+    damper_sampler: SamplerState,
+    setpoint_on: bool,
+    damper_high: bool,
+    damper_delay: TrueDelayState,
+    starved_half: bool,
+    starved_seventy: bool,
+    pressure: i64,
+}
+
+impl SystemRequestsState {
+    pub fn fresh() -> SystemRequestsState
+        ensures { λ r. ⌜ r ≡ Airflow.fresh-system-requests ⌝ }
+    {
+        let delay = TrueDelayState::fresh();
+        let sampler = SamplerState::fresh();
+        SystemRequestsState {
+            hot_three: false,
+            hot_two: false,
+            hot_three_delay: delay,
+            hot_two_delay: delay,
+            cooling_sampler: sampler,
+            setpoint_sampler: sampler,
+            discharge_sampler: sampler,
+            damper_sampler: sampler,
+            cooling_high: false,
+            setpoint_on: false,
+            damper_high: false,
+            damper_delay: delay,
+            starved_half: false,
+            starved_seventy: false,
+        }
+    }
+
+    pub fn output(
+        self,
+        t: f64,
+        input: SystemRequestInput,
+        delay_on_init: bool,
+    ) -> SystemRequestsStep
+        ensures { λ r. ⌜ r ≡ Airflow.system-requests self t input «delay_on_init» ⌝ }
+    {
+        let temperature = self.temperature_request(t, input, delay_on_init);
+        let pressure = self.pressure_request(t, input, delay_on_init);
+        system_requests_step(temperature, pressure)
+    }
+
+    fn temperature_request(
+        self,
+        t: f64,
+        input: SystemRequestInput,
+        delay_on_init: bool,
+    ) -> TemperatureRequestStep
+        ensures { λ r. ⌜ r ≡ Airflow.temperature-request self t input «delay_on_init» ⌝ }
+    {
+        let temperature_difference = input.zone_temperature - input.cooling_setpoint;
+        let hot_three = hysteresis(temperature_difference, 2.75, 3.0, self.hot_three);
+        let hot_two = hysteresis(temperature_difference, 1.75, 2.0, self.hot_two);
+        let three_held = self.hot_three_delay
+            .output(t, hot_three, 120.0, delay_on_init);
+        let two_held = self.hot_two_delay.output(t, hot_two, 120.0, delay_on_init);
+        let sampled_cooling = self.cooling_sampler
+            .sample(t, input.cooling_loop, SAMPLE_PERIOD);
+        let cooling_high = hysteresis(sampled_cooling.output, 0.94, 0.95, self.cooling_high);
+        let temperature = request_level(
+            input.after_suppression & three_held.output,
+            input.after_suppression & two_held.output,
+            cooling_high,
+        );
+        let hot_three_delay = three_held.state;
+        let hot_two_delay = two_held.state;
+        let cooling_sampler = sampled_cooling.state;
+        TemperatureRequestStep {
+            hot_three,
+            hot_two,
+            hot_three_delay,
+            hot_two_delay,
+            cooling_sampler,
+            cooling_high,
+            temperature,
+        }
+    }
+
+    // The damper's sampler sees the command after its override.
+    fn pressure_request(
+        self,
+        t: f64,
+        input: SystemRequestInput,
+        delay_on_init: bool,
+    ) -> PressureRequestStep
+        ensures { λ r. ⌜ r ≡ Airflow.pressure-request self t input «delay_on_init» ⌝ }
+    {
+        let setpoint = self.setpoint_sampler
+            .sample(t, input.airflow_setpoint, SAMPLE_PERIOD);
+        let discharge = self.discharge_sampler
+            .sample(t, input.discharge_airflow, SAMPLE_PERIOD);
+        let damper = self.damper_sampler
+            .sample(t, input.damper_position, SAMPLE_PERIOD);
+        let setpoint_on = hysteresis(setpoint.output, 0.005, 0.01, self.setpoint_on);
+        let damper_high = hysteresis(damper.output, 0.94, 0.95, self.damper_high);
+        let held = self.damper_delay
+            .output(t, damper_high, 60.0, delay_on_init);
+        let half = 0.5 * setpoint.output;
+        let starved_half = greater_hysteretic(
+            half,
+            discharge.output,
+            FLOW_HYSTERESIS,
+            self.starved_half,
+        );
+        let seventy = 0.7 * setpoint.output;
+        let starved_seventy = greater_hysteretic(
+            seventy,
+            discharge.output,
+            FLOW_HYSTERESIS,
+            self.starved_seventy,
+        );
+        let gate = setpoint_on & held.output;
+        let pressure = request_level(gate & starved_half, gate & starved_seventy, damper_high);
+        let setpoint_sampler = setpoint.state;
+        let discharge_sampler = discharge.state;
+        let damper_sampler = damper.state;
+        let damper_delay = held.state;
+        PressureRequestStep {
+            setpoint_sampler,
+            discharge_sampler,
+            damper_sampler,
+            setpoint_on,
+            damper_high,
+            damper_delay,
+            starved_half,
+            starved_seventy,
+            pressure,
+        }
+    }
+}
+
+// The two requests' memories and levels, put together.
+fn system_requests_step(
+    temperature: TemperatureRequestStep,
+    pressure: PressureRequestStep,
+) -> SystemRequestsStep
+    ensures { λ r. ⌜ r ≡ Airflow.system-requests-step temperature pressure ⌝ }
+{
+    let hot_three_delay = temperature.hot_three_delay;
+    let hot_two_delay = temperature.hot_two_delay;
+    let cooling_sampler = temperature.cooling_sampler;
+    let setpoint_sampler = pressure.setpoint_sampler;
+    let discharge_sampler = pressure.discharge_sampler;
+    let damper_sampler = pressure.damper_sampler;
+    let damper_delay = pressure.damper_delay;
+    SystemRequestsStep {
+        state: SystemRequestsState {
+            hot_three: temperature.hot_three,
+            hot_two: temperature.hot_two,
+            hot_three_delay,
+            hot_two_delay,
+            cooling_sampler,
+            setpoint_sampler,
+            discharge_sampler,
+            damper_sampler,
+            cooling_high: temperature.cooling_high,
+            setpoint_on: pressure.setpoint_on,
+            damper_high: pressure.damper_high,
+            damper_delay,
+            starved_half: pressure.starved_half,
+            starved_seventy: pressure.starved_seventy,
+        },
+        output: SystemRequestOutput {
+            temperature: temperature.temperature,
+            pressure: pressure.pressure,
+        },
+    }
+}
+
+pub fn request_level(three: bool, two: bool, one: bool) -> i64
+    ensures { λ r. ⌜ r ≡ Airflow.request-level three two one ⌝ }
+{
+    if three {
+        3
+    } else if two {
+        2
+    } else if one {
+        1
+    } else {
+        0
+    }
+}
+
+pub struct AlarmInput {
+    pub discharge_airflow: f64,
+    pub active_airflow_setpoint: f64,
+    pub supply_fan_status: bool,
+    pub operation_mode: i64,
+    pub damper_position: f64,
+}
+
+pub struct AlarmOutput {
+    pub low_airflow: i64,
+    pub airflow_sensor: i64,
+    pub leaking_damper: i64,
+}
+
+pub struct AlarmsState {
+    pub fan_armed: TrueDelayState,
+    pub setpoint_nonzero: bool,
+    pub setpoint_on: TrueDelayState,
+    pub low_half: bool,
+    pub low_seventy: bool,
+    pub low_half_delay: TrueDelayState,
+    pub low_seventy_delay: TrueDelayState,
+    pub flow_high: bool,
+    pub sensor_delay: TrueDelayState,
+    pub damper_closed: bool,
+    pub leak_delay: TrueDelayState,
+}
+
+pub struct AlarmsStep {
+    pub state: AlarmsState,
+    pub output: AlarmOutput,
+}
+
+// The memories of the low airflow alarm after a tick, and its level.
+struct LowAirflowStep {
+    fan_armed: TrueDelayState,
+    setpoint_nonzero: bool,
+    setpoint_on: TrueDelayState,
+    low_half: bool,
+    low_seventy: bool,
+    low_half_delay: TrueDelayState,
+    low_seventy_delay: TrueDelayState,
+    low_airflow: i64,
+}
+
+// The memories of the airflow sensor alarm and the leaking damper alarm after a tick, and their levels.
+struct SensorLeakStep {
+    flow_high: bool,
+    sensor_delay: TrueDelayState,
+    airflow_sensor: i64,
+    damper_closed: bool,
+    leak_delay: TrueDelayState,
+    leaking_damper: i64,
+}
+
+impl AlarmsState {
+    pub fn fresh() -> AlarmsState
+        ensures { λ r. ⌜ r ≡ Airflow.fresh-alarms ⌝ }
+    {
+        let delay = TrueDelayState::fresh();
+        AlarmsState {
+            fan_armed: delay,
+            setpoint_nonzero: false,
+            setpoint_on: delay,
+            low_half: false,
+            low_seventy: false,
+            low_half_delay: delay,
+            low_seventy_delay: delay,
+            flow_high: false,
+            sensor_delay: delay,
+            damper_closed: false,
+            leak_delay: delay,
+        }
+    }
+
+    pub fn output(self, t: f64, input: AlarmInput, delay_on_init: bool) -> AlarmsStep
+        ensures { λ r. ⌜ r ≡ Airflow.alarms self t input «delay_on_init» ⌝ }
+    {
+        let low = self.low_airflow(t, input, delay_on_init);
+        let sensor_leak = self.sensor_leak(t, input, delay_on_init);
+        alarms_step(low, sensor_leak)
+    }
+
+    // Both low-flow memories move on every tick, whether the fan is armed or not.
+    fn low_airflow(self, t: f64, input: AlarmInput, delay_on_init: bool) -> LowAirflowStep
+        ensures { λ r. ⌜ r ≡ Airflow.low-airflow-alarm self t input «delay_on_init» ⌝ }
+    {
+        let flow = input.discharge_airflow;
+        let setpoint = input.active_airflow_setpoint;
+        let occupied = input.operation_mode == 1;
+        let armed = self.fan_armed
+            .output(t, input.supply_fan_status, 1800.0, delay_on_init);
+        let setpoint_nonzero = hysteresis(setpoint, 0.005, 0.01, self.setpoint_nonzero);
+        let on = self.setpoint_on
+            .output(t, setpoint_nonzero, 300.0, delay_on_init);
+        let low_half = less_hysteretic(flow, 0.5 * setpoint, FLOW_HYSTERESIS, self.low_half);
+        let low_seventy = greater_hysteretic(
+            0.7 * setpoint,
+            flow,
+            FLOW_HYSTERESIS,
+            self.low_seventy,
+        );
+        let half_low = low_half & armed.output;
+        let half_held = self.low_half_delay
+            .output(t, half_low, 300.0, delay_on_init);
+        let seventy_low = low_seventy & armed.output;
+        let seventy_held = self.low_seventy_delay
+            .output(t, seventy_low, 300.0, delay_on_init);
+        let low_airflow = low_airflow_level(
+            half_held.output & on.output & occupied,
+            seventy_held.output & on.output & occupied,
+        );
+        let fan_armed = armed.state;
+        let setpoint_on = on.state;
+        let low_half_delay = half_held.state;
+        let low_seventy_delay = seventy_held.state;
+        LowAirflowStep {
+            fan_armed,
+            setpoint_nonzero,
+            setpoint_on,
+            low_half,
+            low_seventy,
+            low_half_delay,
+            low_seventy_delay,
+            low_airflow,
+        }
+    }
+
+    fn sensor_leak(self, t: f64, input: AlarmInput, delay_on_init: bool) -> SensorLeakStep
+        ensures { λ r. ⌜ r ≡ Airflow.sensor-leak-alarms self t input «delay_on_init» ⌝ }
+    {
+        let occupied = input.operation_mode == 1;
+        let fan = input.supply_fan_status;
+        let limit = 0.1 * DESIGN_COOLING_MAXIMUM_FLOW;
+        let flow_high = greater_hysteretic(
+            input.discharge_airflow,
+            limit,
+            FLOW_HYSTERESIS,
+            self.flow_high,
+        );
+        let sensor_held = self.sensor_delay
+            .output(t, flow_high & !fan, 600.0, delay_on_init);
+        let airflow_sensor = alarm_level(sensor_held.output & occupied, 3);
+        let damper_closed = less_hysteretic(
+            input.damper_position,
+            DAMPER_POSITION_HYSTERESIS,
+            0.5 * DAMPER_POSITION_HYSTERESIS,
+            self.damper_closed,
+        );
+        let leaking = fan & damper_closed & flow_high;
+        let leak_held = self.leak_delay.output(t, leaking, 600.0, delay_on_init);
+        let leaking_damper = alarm_level(leak_held.output, 4);
+        let sensor_delay = sensor_held.state;
+        let leak_delay = leak_held.state;
+        SensorLeakStep {
+            flow_high,
+            sensor_delay,
+            airflow_sensor,
+            damper_closed,
+            leak_delay,
+            leaking_damper,
+        }
+    }
+}
+
+// The alarms' memories and levels, put together.
+fn alarms_step(low: LowAirflowStep, sensor_leak: SensorLeakStep) -> AlarmsStep
+    ensures { λ r. ⌜ r ≡ Airflow.alarms-step low «sensor_leak» ⌝ }
+{
+    let fan_armed = low.fan_armed;
+    let setpoint_on = low.setpoint_on;
+    let low_half_delay = low.low_half_delay;
+    let low_seventy_delay = low.low_seventy_delay;
+    let sensor_delay = sensor_leak.sensor_delay;
+    let leak_delay = sensor_leak.leak_delay;
+    AlarmsStep {
+        state: AlarmsState {
+            fan_armed,
+            setpoint_nonzero: low.setpoint_nonzero,
+            setpoint_on,
+            low_half: low.low_half,
+            low_seventy: low.low_seventy,
+            low_half_delay,
+            low_seventy_delay,
+            flow_high: sensor_leak.flow_high,
+            sensor_delay,
+            damper_closed: sensor_leak.damper_closed,
+            leak_delay,
+        },
+        output: AlarmOutput {
+            low_airflow: low.low_airflow,
+            airflow_sensor: sensor_leak.airflow_sensor,
+            leaking_damper: sensor_leak.leaking_damper,
+        },
+    }
+}
+
+fn low_airflow_level(level_two: bool, level_three: bool) -> i64
+    ensures { λ r. ⌜ r ≡ Airflow.low-airflow-level «level_two» «level_three» ⌝ }
+{
+    if level_two {
+        2
+    } else if level_three {
+        3
+    } else {
+        0
+    }
+}
+
+fn alarm_level(on: bool, level: i64) -> i64
+    ensures { λ r. ⌜ r ≡ Airflow.alarm-level on level ⌝ }
+{
+    if on { level } else { 0 }
+}

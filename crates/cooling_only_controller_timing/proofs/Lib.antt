@@ -1,0 +1,3 @@
+pub mod TrueDelayLaw
+pub mod SamplerLaw
+pub mod UnitDelayLaw
