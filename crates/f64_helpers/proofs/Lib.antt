@@ -1,5 +1,6 @@
 mod Facts
 mod Signs
+mod WholeTest
 pub mod Meaning
 pub mod WholeSeconds
 pub mod Quotients

@@ -1,8 +1,9 @@
 -- Document 01's f64 helpers: floor, ceiling, absolute value, the smaller and the larger of two, and the cast to i64, for every f64.
 -- They stand for Rust's `.floor()`, `.ceil()`, `.abs()`, `.min()`, `.max()` and `as i64`.
-use Prim.Native.Nat.{ℕ, _+_, _-_, _*_, _/_}
+use Prim.Native.Nat.{ℕ, _+_, _-_, _*_, _/_, _%_}
 use mathlib.Core.Bool.{Bool, true, false, _&&_, _||_}
 use lib.IntN.{ℤ, pos}
+use lib.Dec.{eqb}
 use lib.Ieee.{Float, nan, inf, fin, binary64, up, down, round, isNan, eq, toSigned, ofInt}
 use Rattle.f64_helpers.specs.F64.{_<ᶠ_, _>ᶠ_, zero, if_then_else_}
 
@@ -69,3 +70,9 @@ as-i64 x = toSigned 63 x
 -- Rust's `n as f64`: the f64 nearest to n
 abbrev pub as-f64 : ℤ → Float
 as-f64 n = ofInt binary64 n
+
+-- finite and with no fraction
+abbrev pub is-whole : Float → Bool
+is-whole nan = false
+is-whole (inf s) = false
+is-whole (fin s m e) = eqb (m * up e % down e) 0

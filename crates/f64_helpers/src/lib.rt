@@ -108,6 +108,13 @@ pub fn as_i64(x: f64) -> i64
     }
 }
 
+// Whether x is finite and has no fraction.
+pub fn is_whole(x: f64) -> bool
+    ensures { λ r. ⌜ r ≡ Helpers.is-whole x ⌝ }
+{
+    (x - x == 0.0) & (floor(x) == x)
+}
+
 // `if b { x } else { y }`, where a stage picks between two values.
 pub fn choose(b: bool, x: f64, y: f64) -> f64
     ensures { λ r. ⌜ r ≡ (if b then x else y) ⌝ }

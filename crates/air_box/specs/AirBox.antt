@@ -1,0 +1,105 @@
+-- The air box of document 01: the Rust's state with the last accepted time and the start choice beside it, the questions asked of a tick, the quiet start and the desk code.
+use Prim.Native.Nat.{ℕ}
+use mathlib.Core.Bool.{Bool, true, false, not, _&&_}
+use lib.IntN.{ℤ}
+use lib.Ieee.{Float, neg}
+use Rattle.f64_helpers.specs.F64.{_⊖_, _≤ᶠ_, _≥ᶠ_, decimal, zero, if_then_else_}
+use Rattle.f64_helpers.specs.Helpers.{is-whole}
+use Rattle.f64_helpers.specs.Integers.{_==ᶻ_}
+use Rattle.cdl_recurrences.specs.declared.OptionalTime.{OptionalTime}
+use Rattle.cdl_recurrences.specs.declared.OptionalTime.the-variants.{Absent, At}
+use Rattle.cooling_only_controller.specs.Controller.{controller-output, fresh-controller}
+use Rattle.cooling_only_controller.specs.declared.ControllerInput.{ControllerInput}
+use Rattle.air_box.specs.declared.Tick.{Tick}
+use Rattle.air_box.specs.declared.Start.{Start}
+use Rattle.air_box.specs.declared.Start.the-variants.{Plain, Quiet}
+use Rattle.air_box.specs.declared.AirBox.{AirBox}
+use Rattle.air_box.specs.declared.AirBoxStep.{AirBoxStep}
+use Rattle.air_box.specs.declared.Answer.the-variants.{Accepted, Refused}
+use Rattle.air_box.specs.declared.Refusal.{Refusal}
+use Rattle.air_box.specs.declared.Refusal.the-variants.{NotWholeSeconds, TimeOutOfRange, BeforeLast, TooLongAfterLast, TemperatureOutOfRange, Co2OutOfRange, AirflowOutOfRange}
+use Rattle.air_box.specs.declared.Verdict.{Verdict}
+use Rattle.air_box.specs.declared.Verdict.the-variants.{Accept, Refuse}
+
+-- ---- document 01, 'Questions asked of a tick'
+
+-- the number of each reason
+abbrev pub refusal-number : Refusal → ℕ
+refusal-number NotWholeSeconds = 1
+refusal-number TimeOutOfRange = 2
+refusal-number BeforeLast = 3
+refusal-number TooLongAfterLast = 4
+refusal-number TemperatureOutOfRange = 5
+refusal-number Co2OutOfRange = 6
+refusal-number AirflowOutOfRange = 7
+
+-- from low to high, the ends included; a NaN is not
+abbrev pub within : Float → Float → Float → Bool
+within x low high = (x ≥ᶠ low) && (x ≤ᶠ high)
+
+-- Questions 3 and 4. They are not asked on a first tick.
+abbrev pub at-or-after : OptionalTime → Float → Bool
+at-or-after Absent t = true
+at-or-after (At last) t = t ≥ᶠ last
+
+abbrev pub soon-after : OptionalTime → Float → Bool
+soon-after Absent t = true
+soon-after (At last) t = t ⊖ last ≤ᶠ decimal 240 1
+
+-- question 5
+abbrev pub temperatures-within : ControllerInput → Bool
+temperatures-within input =
+    within (input .«zone_temperature») (decimal 150 1) (decimal 450 1)
+    && within (input .«cooling_setpoint») (decimal 150 1) (decimal 450 1)
+    && within (input .«heating_setpoint») (decimal 150 1) (decimal 450 1)
+    && within (input .«discharge_air_temperature») (decimal 150 1) (decimal 450 1)
+    && within (input .«supply_air_temperature») (decimal 150 1) (decimal 450 1)
+
+-- The seven questions in their order. The first "no" is the reason.
+unfoldable pub questions : OptionalTime → Tick → Verdict
+questions last-time k =
+    if not (is-whole (k .t)) then Refuse NotWholeSeconds
+    else if not (within (k .t) zero (decimal 2147483648 1)) then Refuse TimeOutOfRange
+    else if not (at-or-after last-time (k .t)) then Refuse BeforeLast
+    else if not (soon-after last-time (k .t)) then Refuse TooLongAfterLast
+    else if not (temperatures-within (k .input)) then Refuse TemperatureOutOfRange
+    else if not (within (k .input .«co2_setpoint») zero (decimal 10000 1) && within (k .input .«co2_concentration») zero (decimal 10000 1)) then Refuse Co2OutOfRange
+    else if not (within (k .input .«discharge_airflow») (neg (decimal 10 1)) (decimal 10 1)) then Refuse AirflowOutOfRange
+    else Accept
+
+-- ---- the box
+
+-- Document 01, 'Quiet start': the nine true delays of system requests and alarms run with delay_on_init true.
+abbrev pub delay-on-init : Start → Bool
+delay-on-init Plain = false
+delay-on-init Quiet = true
+
+abbrev pub fresh-box : Start → AirBox
+fresh-box start = record { state = fresh-controller; «last_time» = Absent; start = start }
+
+-- A tick that every question lets pass: the Rust's output and next state, and its time becomes the last accepted one.
+unfoldable pub accepted-tick : AirBox → Tick → AirBoxStep
+accepted-tick box k =
+    let step = controller-output (box .state) (k .t) (k .input) (delay-on-init (box .start)) in
+    record {
+      state = record { state = step .state; «last_time» = At (k .t); start = box .start };
+      answer = Accepted (step .output);
+    }
+
+-- A refused tick gives the reason, and the box is the old one.
+abbrev pub decided : Verdict → AirBox → Tick → AirBoxStep
+decided Accept box k = accepted-tick box k
+decided (Refuse reason) box k = record { state = box; answer = Refused reason }
+
+unfoldable pub tick : AirBox → Tick → AirBoxStep
+tick box k = decided (questions (box .«last_time») k) box k
+
+-- ---- document 01, 'Desk code'
+
+unfoldable pub desk-code : ℤ → ℤ → ℤ → ℕ
+desk-code low-airflow airflow-sensor leaking-damper =
+    if low-airflow ==ᶻ 2 then 12
+    else if low-airflow ==ᶻ 3 then 13
+    else if airflow-sensor ==ᶻ 3 then 23
+    else if leaking-damper ==ᶻ 4 then 34
+    else 0

@@ -1,0 +1,212 @@
+// The air box: the controller's state, the last accepted time and the start choice; the seven questions asked of a tick; the desk code.
+ghost use mathlib.Core.Path.{_≡_};
+ghost use Rattle.air_box.specs.AirBox as AirBoxes;
+use cdl_recurrences::OptionalTime;
+use cooling_only_controller::ControllerInput;
+use cooling_only_controller::ControllerOutput;
+use cooling_only_controller::ControllerState;
+
+// What a tick carries: its time in seconds, and the readings and settings.
+pub struct Tick {
+    pub t: f64,
+    pub input: ControllerInput,
+}
+
+// The start choice, named when a box is built. It never changes.
+pub enum Start {
+    Plain,
+    Quiet,
+}
+
+pub struct AirBox {
+    pub state: ControllerState,
+    pub last_time: OptionalTime,
+    pub start: Start,
+}
+
+// Why a tick is refused: the question that got the first "no".
+pub enum Refusal {
+    NotWholeSeconds,
+    TimeOutOfRange,
+    BeforeLast,
+    TooLongAfterLast,
+    TemperatureOutOfRange,
+    Co2OutOfRange,
+    AirflowOutOfRange,
+}
+
+// A tick's answer: the ten outputs, or the refusal.
+pub enum Answer {
+    Accepted(ControllerOutput),
+    Refused(Refusal),
+}
+
+pub struct AirBoxStep {
+    pub state: AirBox,
+    pub answer: Answer,
+}
+
+// What the questions decide.
+pub enum Verdict {
+    Accept,
+    Refuse(Refusal),
+}
+
+impl Refusal {
+    // Document 01's number of the reason.
+    pub fn number(self) -> u8
+        ensures { λ r. ⌜ r ≡ AirBoxes.refusal-number self ⌝ }
+    {
+        match self {
+            Refusal::NotWholeSeconds => 1,
+            Refusal::TimeOutOfRange => 2,
+            Refusal::BeforeLast => 3,
+            Refusal::TooLongAfterLast => 4,
+            Refusal::TemperatureOutOfRange => 5,
+            Refusal::Co2OutOfRange => 6,
+            Refusal::AirflowOutOfRange => 7,
+        }
+    }
+}
+
+impl Start {
+    // Whether the true delays of system requests and alarms run with delay_on_init.
+    pub fn delay_on_init(self) -> bool
+        ensures { λ r. ⌜ r ≡ AirBoxes.delay-on-init self ⌝ }
+    {
+        match self {
+            Start::Plain => false,
+            Start::Quiet => true,
+        }
+    }
+}
+
+impl AirBox {
+    // A box that has had no tick.
+    pub fn fresh(start: Start) -> AirBox
+        ensures { λ r. ⌜ r ≡ AirBoxes.fresh-box start ⌝ }
+    {
+        let state = ControllerState::fresh();
+        AirBox {
+            state,
+            last_time: OptionalTime::Absent,
+            start,
+        }
+    }
+
+    // One tick: a refused one gives its reason and leaves the box as it was.
+    pub fn tick(self, tick: Tick) -> AirBoxStep
+        ensures { λ r. ⌜ r ≡ AirBoxes.tick self tick ⌝ }
+    {
+        let last_time = self.last_time;
+        let verdict = questions(last_time, tick);
+        match verdict {
+            Verdict::Refuse(reason) => AirBoxStep {
+                state: self,
+                answer: Answer::Refused(reason),
+            },
+            Verdict::Accept => self.accepted(tick),
+        }
+    }
+
+    fn accepted(self, tick: Tick) -> AirBoxStep
+        ensures { λ r. ⌜ r ≡ AirBoxes.accepted-tick self tick ⌝ }
+    {
+        let start = self.start;
+        let delay_on_init = start.delay_on_init();
+        let input = tick.input;
+        let step = self.state.output(tick.t, input, delay_on_init);
+        let state = step.state;
+        let output = step.output;
+        AirBoxStep {
+            state: AirBox {
+                state,
+                last_time: OptionalTime::At(tick.t),
+                start,
+            },
+            answer: Answer::Accepted(output),
+        }
+    }
+}
+
+// The seven questions, in order: the first "no" is the reason.
+pub fn questions(last_time: OptionalTime, tick: Tick) -> Verdict
+    ensures { λ r. ⌜ r ≡ AirBoxes.questions «last_time» tick ⌝ }
+{
+    let t = tick.t;
+    let input = tick.input;
+    if !f64_helpers::is_whole(t) {
+        return Verdict::Refuse(Refusal::NotWholeSeconds);
+    }
+    if !within(t, 0.0, 2147483648.0) {
+        return Verdict::Refuse(Refusal::TimeOutOfRange);
+    }
+    if !at_or_after(last_time, t) {
+        return Verdict::Refuse(Refusal::BeforeLast);
+    }
+    if !soon_after(last_time, t) {
+        return Verdict::Refuse(Refusal::TooLongAfterLast);
+    }
+    if !temperatures_within(input) {
+        return Verdict::Refuse(Refusal::TemperatureOutOfRange);
+    }
+    if !(within(input.co2_setpoint, 0.0, 10000.0) & within(input.co2_concentration, 0.0, 10000.0)) {
+        return Verdict::Refuse(Refusal::Co2OutOfRange);
+    }
+    if !within(input.discharge_airflow, -10.0, 10.0) {
+        return Verdict::Refuse(Refusal::AirflowOutOfRange);
+    }
+    Verdict::Accept
+}
+
+// Whether x lies from low to high, the ends included. A NaN does not.
+pub fn within(x: f64, low: f64, high: f64) -> bool
+    ensures { λ r. ⌜ r ≡ AirBoxes.within x low high ⌝ }
+{
+    (x >= low) & (x <= high)
+}
+
+fn at_or_after(last_time: OptionalTime, t: f64) -> bool
+    ensures { λ r. ⌜ r ≡ AirBoxes.at-or-after «last_time» t ⌝ }
+{
+    match last_time {
+        OptionalTime::Absent => true,
+        OptionalTime::At(last) => t >= last,
+    }
+}
+
+fn soon_after(last_time: OptionalTime, t: f64) -> bool
+    ensures { λ r. ⌜ r ≡ AirBoxes.soon-after «last_time» t ⌝ }
+{
+    match last_time {
+        OptionalTime::Absent => true,
+        OptionalTime::At(last) => t - last <= 240.0,
+    }
+}
+
+fn temperatures_within(input: ControllerInput) -> bool
+    ensures { λ r. ⌜ r ≡ AirBoxes.temperatures-within input ⌝ }
+{
+    within(input.zone_temperature, 150.0, 450.0)
+        & within(input.cooling_setpoint, 150.0, 450.0)
+        & within(input.heating_setpoint, 150.0, 450.0)
+        & within(input.discharge_air_temperature, 150.0, 450.0)
+        & within(input.supply_air_temperature, 150.0, 450.0)
+}
+
+// One number from the three alarms, by the first rule that fits.
+pub fn desk_code(low_airflow: i64, airflow_sensor: i64, leaking_damper: i64) -> u8
+    ensures { λ r. ⌜ r ≡ AirBoxes.desk-code «low_airflow» «airflow_sensor» «leaking_damper» ⌝ }
+{
+    if low_airflow == 2 {
+        12
+    } else if low_airflow == 3 {
+        13
+    } else if airflow_sensor == 3 {
+        23
+    } else if leaking_damper == 4 {
+        34
+    } else {
+        0
+    }
+}
