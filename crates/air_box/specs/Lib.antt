@@ -1,1 +1,3 @@
 pub mod AirBox
+pub mod Demand1
+pub mod Demand2

@@ -1,0 +1,2 @@
+pub mod Nights
+pub mod Demand3
