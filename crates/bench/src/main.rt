@@ -1,0 +1,145 @@
+// Document 01's bench cases that are run and not proved: the first ticks 130, 190 and 250, every refusal, and the quiet start. What it prints is held to the file stdout.
+use air_box::AirBox;
+use air_box::AirBoxStep;
+use air_box::Answer;
+use air_box::Start;
+use air_box::Tick;
+use cooling_only_controller::ControllerInput;
+use libc::STDOUT_FILENO;
+
+// A tick in mode 1 with calm readings, but for the six that the cases vary.
+fn tick_of(t: f64, zone: f64, co2: f64, flow: f64, airflow_override: i64, fan: bool) -> Tick {
+    Tick {
+        t,
+        input: ControllerInput {
+            zone_temperature: zone,
+            cooling_setpoint: 297.0,
+            heating_setpoint: 293.0,
+            window_status: true,
+            occupancy_status: true,
+            operating_mode: 1,
+            co2_setpoint: 894.0,
+            co2_concentration: co2,
+            discharge_air_temperature: 288.0,
+            supply_air_temperature: 287.0,
+            discharge_airflow: flow,
+            airflow_override_index: airflow_override,
+            damper_override_index: 0,
+            supply_fan_status: fan,
+        },
+    }
+}
+
+fn at(t: f64) -> Tick {
+    tick_of(t, 296.0, 600.0, 0.5, 0, true)
+}
+
+// 0 for an accepted tick, else the number of the refusal.
+fn number(step: AirBoxStep) -> u64 {
+    let answer = step.answer;
+    match answer {
+        Answer::Accepted(_) => 0,
+        Answer::Refused(reason) => reason.number() as u64,
+    }
+}
+
+fn print(label: &[u8], n: u64) {
+    io::write_all(STDOUT_FILENO, label);
+    io::write_all(STDOUT_FILENO, b" ");
+    io::print_decimal(STDOUT_FILENO, n);
+    io::write_all(STDOUT_FILENO, b"\n");
+}
+
+fn flag(b: bool) -> u64 {
+    if b { 1 } else { 0 }
+}
+
+// The unit delay gives 0.0 at 250 after a first tick off the grid, so a setpoint change is seen there.
+fn first_ticks() {
+    let first = AirBox::fresh(Start::Plain).tick(at(130.0)).state;
+    let second = first.tick(at(190.0)).state;
+    let third = second.tick(at(250.0)).state;
+    print(
+        b"130 suppression",
+        flag(first.state.time_suppression.previous_active),
+    );
+    print(
+        b"190 suppression",
+        flag(second.state.time_suppression.previous_active),
+    );
+    print(
+        b"250 suppression",
+        flag(third.state.time_suppression.previous_active),
+    );
+}
+
+fn refusals_of_time() {
+    let fresh = AirBox::fresh(Start::Plain);
+    print(b"t 0.5 gives", number(fresh.tick(at(0.5))));
+    print(b"t infinity gives", number(fresh.tick(at(1.0 / 0.0))));
+    print(b"t -1 gives", number(fresh.tick(at(-1.0))));
+    print(b"t -0.0 gives", number(fresh.tick(at(-0.0))));
+    print(b"t 2147483648 gives", number(fresh.tick(at(2147483648.0))));
+    print(b"t 2147483649 gives", number(fresh.tick(at(2147483649.0))));
+    let last = fresh.tick(at(1000.0)).state;
+    print(b"last 1000, 999 gives", number(last.tick(at(999.0))));
+    print(b"last 1000, 1000 gives", number(last.tick(at(1000.0))));
+    print(b"last 1000, 1240 gives", number(last.tick(at(1240.0))));
+    print(b"last 1000, 1241 gives", number(last.tick(at(1241.0))));
+}
+
+fn refusals_of_readings() {
+    let fresh = AirBox::fresh(Start::Plain);
+    let cold = tick_of(0.0, 150.0, 600.0, 0.5, 0, true);
+    print(b"zone 150.0 gives", number(fresh.tick(cold)));
+    let hot = tick_of(0.0, 450.0, 600.0, 0.5, 0, true);
+    print(b"zone 450.0 gives", number(fresh.tick(hot)));
+    let colder = tick_of(0.0, 149.9, 600.0, 0.5, 0, true);
+    print(b"zone 149.9 gives", number(fresh.tick(colder)));
+    let stale = tick_of(0.0, 296.0, 10000.5, 0.5, 0, true);
+    print(b"CO2 10000.5 gives", number(fresh.tick(stale)));
+    let backward = tick_of(0.0, 296.0, 600.0, -10.5, 0, true);
+    print(b"flow -10.5 gives", number(fresh.tick(backward)));
+    let nothing = tick_of(0.5, 0.0 / 0.0, 600.0, 0.5, 0, true);
+    print(b"t 0.5 with zone NaN gives", number(fresh.tick(nothing)));
+}
+
+// The low airflow alarm of an accepted tick.
+fn low_airflow(step: AirBoxStep) -> i64 {
+    let answer = step.answer;
+    match answer {
+        Answer::Accepted(output) => output.low_airflow_alarm,
+        Answer::Refused(_) => 0,
+    }
+}
+
+// Fan on and low flow from tick 0: when the fan is armed, and when the low alarm first stands.
+fn quiet_start() {
+    let mut b = AirBox::fresh(Start::Quiet);
+    let mut armed_before = false;
+    let mut alarm_before = false;
+    for minute in 0..37u64 {
+        let seconds = minute * 60;
+        let t = std::num::nearest_u64_to_f64(seconds);
+        let step = b.tick(tick_of(t, 296.0, 600.0, 0.0, 2, true));
+        let state = step.state;
+        b = state;
+        let armed = b.state.alarms.fan_armed.held;
+        if armed & !armed_before {
+            print(b"quiet start armed at", seconds);
+        }
+        let alarm = low_airflow(step) != 0;
+        if alarm & !alarm_before {
+            print(b"quiet start low alarm at", seconds);
+        }
+        armed_before = armed;
+        alarm_before = alarm;
+    }
+}
+
+fn main() {
+    first_ticks();
+    refusals_of_time();
+    refusals_of_readings();
+    quiet_start();
+}
