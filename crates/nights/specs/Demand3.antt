@@ -65,8 +65,18 @@ TwoNights =
     (first second : List Tick) → Related NoWeaker (accepted-ticks Absent first) (accepted-ticks Absent second)
     → Related (λ (a b : ℤ). a ≡ pos 3 → b ≡ pos 3) (alarms-of first) (alarms-of second)
 
+-- ---- the night as one list of answers
+
+-- The answers along a night: at a tick k after the ticks `before`, the answer is the one that `EveryNightExactly` speaks of, whatever comes after it.
+abbrev pub AnswersInPlace : Type 0
+AnswersInPlace =
+    (before : List Tick) (k : Tick) (after : List Tick)
+    → let box = box-after (fresh-box Plain) before in
+    answers (fresh-box Plain) (before ++ (k ∷ after)) ≡ answers (fresh-box Plain) before ++ (tick box k .answer ∷ answers (tick box k .state) after)
+
 -- ---- demand 3
 pub record Demand3 : Type 0 where
   pub flow-high-rule : FlowHighRule
   pub every-night-exactly : EveryNightExactly
+  pub answers-in-place : AnswersInPlace
   pub two-nights : TwoNights
