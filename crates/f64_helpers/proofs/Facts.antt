@@ -1,9 +1,9 @@
--- Facts of floors and ceilings, on plain values. Assumes nothing.
+-- What the proofs of floor, ceiling, absolute value, larger and the cast cite, on plain values: what each test of the code tells of its argument. Assumes nothing.
 use mathlib.Core.Path.{_≡_, refl, sym, ap, _∙_, subst}
 use Prim.Native.Nat.{ℕ, zero, suc, _+_, _-_, _*_, _/_, _%_, _^_, _≤_, _<_, min, compare}
 use native.Mathlib.Nat.{zero-lt-suc, zero-mul, one-mul, mul-one, add-zero, mul-comm, mul-assoc, mul-right-comm, mul-lt-mul-of-pos-right, lt-of-mul-lt-mul-right, le-of-mul-le-mul-right, div-one, mul-pos, le-div-iff-mul-le, div-lt-iff-lt-mul, div-mul-le-self, lt-div-mul-add, div-eq-of-lt-le, pow-succ'}
 use native.Mathlib.Omega.{arith}
-use mathlib.Core.Bool.{Bool, true, false, not, _&&_, _||_, Bool·beq, cond, true≢false}
+use mathlib.Core.Bool.{Bool, true, false, not, _&&_, _||_, Bool·beq, cond, true≢false, Bool·not-not}
 use lib.IntN.{ℤ, pos, negsuc, negℤ}
 use lib.Dec.{T, ltb, leb, eqb, ltb→lt, nltb→le, lt→ltb, eqb→eq, eqb-refl}
 use lib.Pow.{pow-add, pow-pos}
@@ -222,21 +222,17 @@ neg-round f s a c =
     let u = c * 2 ^ k in
     neg-units f s (nearest (n / u) (compare (n % u * 2) u)) k
 
-not-not : (s : Bool) → not (not s) ≡ s
-not-not true = refl
-not-not false = refl
-
 pub neg-floor : (x : Float) → neg (floor (neg x)) ≡ ceil x
 unfolding neg floor ceil
 neg-floor nan = refl
-neg-floor (inf s) = ap inf (not-not s)
+neg-floor (inf s) = ap inf (Bool·not-not s)
 neg-floor (fin false m e) = neg-round binary64 true (quotient-up (m * up e) (down e)) 1
 neg-floor (fin true m e) = neg-round binary64 false (quotient-down (m * up e) (down e)) 1
 
 pub neg-ceil : (x : Float) → neg (ceil (neg x)) ≡ floor x
 unfolding neg floor ceil
 neg-ceil nan = refl
-neg-ceil (inf s) = ap inf (not-not s)
+neg-ceil (inf s) = ap inf (Bool·not-not s)
 neg-ceil (fin false m e) = neg-round binary64 true (quotient-down (m * up e) (down e)) 1
 neg-ceil (fin true m e) = neg-round binary64 false (quotient-up (m * up e) (down e)) 1
 
@@ -343,20 +339,9 @@ add-zeros true false = refl
 add-zeros false true = refl
 add-zeros false false = refl
 
-pub larger-zeros : (x y : Float) → T (fits binary64 x) → T (fits binary64 y) → T (eq x zeroᶠ) → T (eq y zeroᶠ) → add binary64 x y ≡ fin (negative x && negative y) 0 (pos 0)
-larger-zeros x y t u h k =
+pub sum-of-zeros : (x y : Float) → T (fits binary64 x) → T (fits binary64 y) → T (eq x zeroᶠ) → T (eq y zeroᶠ) → add binary64 x y ≡ fin (negative x && negative y) 0 (pos 0)
+sum-of-zeros x y t u h k =
     ap (λ (z : Float). add binary64 z y) (zero-of-eq x t h) ∙ ap (λ (z : Float). add binary64 (fin (negative x) 0 (pos 0)) z) (zero-of-eq y u k) ∙ add-zeros (negative x) (negative y)
-
-either-sign : (s t : Bool) → neg (add binary64 (neg (fin s 0 (pos 0))) (neg (fin t 0 (pos 0)))) ≡ fin (s || t) 0 (pos 0)
-unfolding add neg
-either-sign true true = refl
-either-sign true false = refl
-either-sign false true = refl
-either-sign false false = refl
-
-pub smaller-zeros : (x y : Float) → T (fits binary64 x) → T (fits binary64 y) → T (eq x zeroᶠ) → T (eq y zeroᶠ) → neg (add binary64 (neg x) (neg y)) ≡ fin (negative x || negative y) 0 (pos 0)
-smaller-zeros x y t u h k =
-    ap (λ (z : Float). neg (add binary64 (neg z) (neg y))) (zero-of-eq x t h) ∙ ap (λ (z : Float). neg (add binary64 (neg (fin (negative x) 0 (pos 0))) (neg z))) (zero-of-eq y u k) ∙ either-sign (negative x) (negative y)
 
 pub nan-test : (x : Float) → ne x x ≡ isNan x
 nan-test nan = unfold ne isNan in refl

@@ -1,18 +1,18 @@
 -- What `floor` and `ceil` mean, for every value that an f64 holds: the result is exactly the whole number that the definition names (nothing is rounded), and that number is the right one.
--- Beside them a dozen computed examples. Assumes nothing.
+-- Beside that, each of document 01's sentences on the helpers. Assumes nothing.
 use mathlib.Core.Path.{_≡_, refl, sym, ap, _∙_, subst}
-use Prim.Native.Nat.{ℕ, zero, suc, _+_, _-_, _*_, _/_, _^_, _≤_, _<_}
-use native.Mathlib.Nat.{le-trans, le-of-eq, mul-one, add-zero, div-one, div-le-self, div-lt-iff-lt-mul, div-mul-le-self, lt-div-mul-add, mul-le-mul-left}
+use Prim.Native.Nat.{ℕ, suc, _+_, _-_, _*_, _/_, _^_, _≤_, _<_}
+use native.Mathlib.Nat.{add-zero, div-one, div-le-self, div-eq-of-lt, div-lt-iff-lt-mul, div-mul-le-self, lt-div-mul-add, mul-le-mul-left}
 use native.Mathlib.Omega.{arith}
-use mathlib.Core.Bool.{Bool, true, false, cond, _&&_}
+use mathlib.Core.Bool.{Bool, true, false, not, cond, _&&_, _||_}
 use lib.IntN.{ℤ, pos, negsuc}
 use lib.Dec.{T}
 use lib.Pow.{pow-pos}
-use lib.Ieee.{Float, nan, inf, fin, binary64, up, down, round, fits, ofBits, lt, eq, isNan, mul, sub, div, toSigned}
+use lib.Ieee.{Float, nan, inf, fin, binary64, up, down, round, fits, lt, eq, isNan}
 use lib.Ieee.Fits.{down-pos}
 use lib.Ieee.Exact.{HasValue}
 use lib.Ieee.Back.{round-whole}
-use Rattle.f64_helpers.specs.Helpers.{floor, ceil, quotient-down, quotient-up, larger, smaller}
+use Rattle.f64_helpers.specs.Helpers.{floor, ceil, abs, quotient-down, quotient-up, negative, larger, smaller}
 use Rattle.f64_helpers.proofs.Facts.{exact, fits-frac}
 
 -- ---- the two quotients are the whole numbers next to a / b: q * b ≤ a < (q + 1) * b, and q * b < a + b with a ≤ q * b
@@ -49,52 +49,71 @@ pub ceil-exact : (s : Bool) (m : ℕ) (e : ℤ) → T (fits binary64 (fin s m e)
 ceil-exact s m (pos k) t = whole-value s m k ((m * 2 ^ k + 0) / 1) t (div-one (m * 2 ^ k + 0) ∙ add-zero (m * 2 ^ k))
 ceil-exact s m (negsuc k) t = round-whole binary64 s ((m * 1 + (2 ^ suc k - 1)) / 2 ^ suc k) (small-ceil m (2 ^ suc k) (pow-pos (suc k)) (fits-frac s m k t))
 
--- ---- examples
--- zeros of either sign, 0.3, -0.3, 2.5, -2.5, the smallest value, 1e6
-pub zeros : (s : Bool) → floor (fin s 0 (pos 0)) ≡ fin s 0 (pos 0)
+-- ---- document 01's sentences on the helpers
+-- floor and ceiling give infinities and zeros back unchanged, and NaN for NaN
+pub floor-zeros : (s : Bool) → floor (fin s 0 (pos 0)) ≡ fin s 0 (pos 0)
 unfolding floor round
-zeros true = refl
-zeros false = refl
+floor-zeros true = refl
+floor-zeros false = refl
 
-e1 : floor (ofBits binary64 0x3fd3333333333333) ≡ fin false 0 (pos 0)
-unfolding floor ofBits round
-e1 = refl
+pub ceil-zeros : (s : Bool) → ceil (fin s 0 (pos 0)) ≡ fin s 0 (pos 0)
+unfolding ceil round
+ceil-zeros true = refl
+ceil-zeros false = refl
 
-e2 : floor (ofBits binary64 0xbfd3333333333333) ≡ fin true 1 (pos 0)
-unfolding floor ofBits round
-e2 = refl
+pub floor-not-finite : (s : Bool) → (floor (inf s) ≡ inf s) × (floor nan ≡ nan)
+unfolding floor
+floor-not-finite s = (refl, refl)
 
-e3 : ceil (ofBits binary64 0xbfd3333333333333) ≡ fin true 0 (pos 0)
-unfolding ceil ofBits round
-e3 = refl
+pub ceil-not-finite : (s : Bool) → (ceil (inf s) ≡ inf s) × (ceil nan ≡ nan)
+unfolding ceil
+ceil-not-finite s = (refl, refl)
 
-e4 : floor (ofBits binary64 0xc004000000000000) ≡ fin true 3 (pos 0)
-unfolding floor ofBits round
-e4 = refl
+-- a ceiling between -1 and 0 is -0.0
+pub ceil-below-zero : (m : ℕ) (e : ℤ) → m * up e < down e → ceil (fin true m e) ≡ fin true 0 (pos 0)
+unfolding ceil round
+ceil-below-zero m e l = ap (λ (n : ℕ). round binary64 true n 1) (div-eq-of-lt l)
 
-e5 : ceil (ofBits binary64 1) ≡ fin false 1 (pos 0)
-unfolding ceil ofBits round
-e5 = refl
+-- absolute value clears the sign bit
+pub abs-not-negative : (x : Float) → negative (abs x) ≡ false
+unfolding abs
+abs-not-negative nan = refl
+abs-not-negative (inf s) = refl
+abs-not-negative (fin s m e) = refl
 
-e8 : larger (fin true 0 (pos 0)) (fin false 0 (pos 0)) ≡ fin false 0 (pos 0)
-unfolding larger isNan lt eq
-e8 = refl
-
-e9 : smaller (fin false 0 (pos 0)) (fin true 0 (pos 0)) ≡ fin true 0 (pos 0)
-unfolding smaller isNan lt eq
-e9 = refl
-
--- of a NaN and a number the number, of two NaNs a NaN
-larger-nan : (y : Float) → larger nan y ≡ y
+-- of a NaN and a number the number is taken, of two NaNs NaN
+pub larger-nan : (y : Float) → larger nan y ≡ y
 unfolding larger isNan
 larger-nan y = refl
 
-nan-larger : (x : Float) → larger x nan ≡ x
+pub smaller-nan : (y : Float) → smaller nan y ≡ y
+unfolding smaller isNan
+smaller-nan y = refl
+
+-- y is no number, so no test of x against it passes
+other-nan : (x z : Float) (b : Bool) → cond (b && false) z x ≡ x
+other-nan x z true = refl
+other-nan x z false = refl
+
+pub larger-other-nan : (x : Float) → larger x nan ≡ x
 unfolding larger isNan lt eq
-nan-larger nan = refl
-nan-larger (inf s) = refl
-nan-larger (fin s m e) = go (eq (fin s m e) (fin false 0 (pos 0)))
-  where
-    go : (b : Bool) → cond (b && false) (fin (s && false) 0 (pos 0)) (fin s m e) ≡ fin s m e
-    go true = refl
-    go false = refl
+larger-other-nan nan = refl
+larger-other-nan (inf s) = refl
+larger-other-nan (fin s m e) = other-nan (fin s m e) (fin (s && false) 0 (pos 0)) (eq (fin s m e) (fin false 0 (pos 0)))
+
+pub smaller-other-nan : (x : Float) → smaller x nan ≡ x
+unfolding smaller isNan lt eq
+smaller-other-nan nan = refl
+smaller-other-nan (inf s) = refl
+smaller-other-nan (fin s m e) = other-nan (fin s m e) (fin (s || false) 0 (pos 0)) (eq (fin s m e) (fin false 0 (pos 0)))
+
+-- the larger of two zeros of unlike sign is 0.0, the smaller -0.0
+pub larger-zeros : (s : Bool) → larger (fin s 0 (pos 0)) (fin (not s) 0 (pos 0)) ≡ fin false 0 (pos 0)
+unfolding larger isNan lt eq
+larger-zeros true = refl
+larger-zeros false = refl
+
+pub smaller-zeros : (s : Bool) → smaller (fin s 0 (pos 0)) (fin (not s) 0 (pos 0)) ≡ fin true 0 (pos 0)
+unfolding smaller isNan lt eq
+smaller-zeros true = refl
+smaller-zeros false = refl

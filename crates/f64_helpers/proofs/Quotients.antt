@@ -16,7 +16,7 @@ use lib.Ieee.Order.{round-mono}
 use Rattle.f64_helpers.specs.F64.{_⊗_, _⊘_}
 use Rattle.f64_helpers.specs.Helpers.{floor, as-i64, negative}
 use Rattle.f64_helpers.specs.Seconds.{Whole}
-use Rattle.f64_helpers.proofs.Meaning.{zeros}
+use Rattle.f64_helpers.proofs.Meaning.{floor-zeros}
 use Rattle.f64_helpers.proofs.WholeSeconds.{of-value, round-to, sizes, seconds-of}
 
 -- only a zero has its sign bit set
@@ -204,7 +204,7 @@ pub floor-quotient : (x y : Float) (a b : ℕ) → Whole x a → Whole y b → 0
 floor-quotient x y a b v w B K N = rw (div-is x y a b v w B) (go (negative x) (sign-whole x a v))
   where
     go : (s : Bool) → (T s → a ≡ 0) → Whole (floor (round binary64 s a b)) (a / b)
-    go true z = rw (z tt, round-zero true b B, zeros, zero-div) (refl, λ q. refl)
+    go true z = rw (z tt, round-zero true b B, floor-zeros, zero-div) (refl, λ q. refl)
     go false z = floor-rounded a b 20 B K (lit≤ tt) (omega (arith, div-le-self a b))
 
 -- ---- the cast to i64

@@ -2,7 +2,7 @@
 use mathlib.Core.Path.{_≡_, refl, sym, ap, _∙_, subst}
 use Prim.Native.Nat.{ℕ, _+_, _*_}
 use native.Mathlib.Nat.{add-comm, zero-mul}
-use mathlib.Core.Bool.{Bool, true, false, not, _&&_, _||_, Bool·beq, cond}
+use mathlib.Core.Bool.{Bool, true, false, not, _&&_, _||_, Bool·beq, cond, Bool·not-not}
 use lib.IntN.{ℤ, pos}
 use lib.Dec.{T, ltb, eqb, eqb→eq}
 use lib.Ieee.{Float, nan, inf, fin, up, down, below, level, neg, lt, eq, isNan}
@@ -10,15 +10,11 @@ use lib.Ieee.Fits.{eq→eqb}
 use Rattle.f64_helpers.specs.F64.{zero}
 use Rattle.f64_helpers.specs.Helpers.{larger, smaller, negative}
 
-pub not-not : (s : Bool) → not (not s) ≡ s
-not-not true = refl
-not-not false = refl
-
 pub neg-neg : (x : Float) → neg (neg x) ≡ x
 unfolding neg
 neg-neg nan = refl
-neg-neg (inf s) = ap inf (not-not s)
-neg-neg (fin s m e) = ap (λ (s : Bool). fin s m e) (not-not s)
+neg-neg (inf s) = ap inf (Bool·not-not s)
+neg-neg (fin s m e) = ap (λ (s : Bool). fin s m e) (Bool·not-not s)
 
 -- -a < -b exactly if b < a
 below-turned : (s t : Bool) (a b : ℕ) → below (not s) a (not t) b ≡ below t b s a
@@ -58,7 +54,7 @@ lt-turned (inf false) (inf true) = refl
 lt-turned (inf false) (inf false) = refl
 lt-turned (inf s) (fin t n d) = refl
 lt-turned (fin s m e) nan = refl
-lt-turned (fin s m e) (inf t) = not-not t
+lt-turned (fin s m e) (inf t) = Bool·not-not t
 lt-turned (fin s m e) (fin t n d) = below-turned s t (m * up e * down d) (n * up d * down e)
 
 is-zero-turned : (x : Float) → eq (neg x) zero ≡ eq x zero
@@ -75,7 +71,7 @@ negative-turned (fin s m e) z = refl
 
 either-negative : (s t : Bool) → not (not s && not t) ≡ (s || t)
 either-negative true t = refl
-either-negative false t = not-not t
+either-negative false t = Bool·not-not t
 
 pub neg-larger : (x y : Float) → neg (larger (neg x) (neg y)) ≡ smaller x y
 unfolding larger smaller neg

@@ -5,7 +5,7 @@ use lib.IntN.{pos}
 use lib.Ieee.{Float, fin, ofBits, lt, eq, ne, isNan}
 use Rattle.f64_helpers.specs.F64.{zero}
 use Rattle.f64_helpers.specs.Helpers.{larger, negative}
-use Rattle.f64_helpers.proofs.Facts.{yes, larger-zeros, nan-test}
+use Rattle.f64_helpers.proofs.Facts.{yes, sum-of-zeros, nan-test}
 use Rattle.f64_helpers.proofs.max.Statement.{statement}
 use Rattle.f64_helpers.proofs.max.Tie as tie
 
@@ -37,7 +37,7 @@ returns-3 c =
     let s = c .before .before .before .before in
     let x = s .args .a in
     let y = s .args .b in
-    larger-zeros x y (yes (s .good .0 .1)) (yes (s .good .1 .0 .1)) (yes (c .before .if3 .taken)) (yes (c .if4 .taken))
+    sum-of-zeros x y (yes (s .good .0 .1)) (yes (s .good .1 .0 .1)) (yes (c .before .if3 .taken)) (yes (c .if4 .taken))
     ∙ pick x y false false true true (is-nan x false (c .before .before .before .if1 .left)) (c .before .before .if2 .left) (c .before .if3 .taken) (c .if4 .taken)
 
 returns-4 : tie.Need-returns-4
