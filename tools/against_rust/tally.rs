@@ -1,0 +1,212 @@
+//! `tally [--whole] TICKS ANSWERS [PORT]`: counts what the answers visit, for plain and for quiet
+//! boxes. With a third file it also says where that one first differs from the answers. With
+//! `--whole` it fails where something of the table was never visited.
+
+use std::fs::File;
+use std::io::{self, BufRead, BufReader};
+use std::process::ExitCode;
+
+mod tick;
+
+use tick::Tick;
+
+/// A row group of the table; `open` groups have a last row for all other numbers.
+struct Group {
+    name: &'static str,
+    values: &'static [i64],
+    open: bool,
+}
+
+const fn group(name: &'static str, values: &'static [i64], open: bool) -> Group {
+    Group { name, values, open }
+}
+
+const REFUSED: usize = 8;
+const GROUPS: [Group; 13] = [
+    group("temperature request", &[0, 1, 2, 3], false),
+    group("pressure request", &[0, 1, 2, 3], false),
+    group("low airflow", &[0, 2, 3], false),
+    group("airflow sensor", &[0, 3], false),
+    group("leaking damper", &[0, 4], false),
+    group("mode", &[1, 2, 3, 4], true),
+    group("airflow override", &[1, 2, 3], true),
+    group("damper override", &[1, 2], true),
+    group("refused", &[1, 2, 3, 4, 5, 6, 7], false),
+    group("first tick at", &[0, 120], true),
+    group("seconds since the last", &[0, 1, 60, 120, 240], true),
+    group("leak 4 beside low", &[2, 3], false),
+    group("status", &[0, 1, 2, 3, 4, 5, 6, 7], false),
+];
+
+/// Counts of each row, the last one of a group for other numbers; column 0 plain, 1 quiet.
+struct Table {
+    rows: Vec<Vec<[u64; 2]>>,
+    accepted: [u64; 2],
+    malformed: u64,
+    quiet: usize,
+    last: Option<f64>,
+}
+
+impl Table {
+    fn new() -> Table {
+        Table {
+            rows: GROUPS
+                .iter()
+                .map(|g| vec![[0; 2]; g.values.len() + 1])
+                .collect(),
+            accepted: [0; 2],
+            malformed: 0,
+            quiet: 0,
+            last: None,
+        }
+    }
+
+    fn count(&mut self, group: usize, number: i64) {
+        let values = GROUPS[group].values;
+        let row = values
+            .iter()
+            .position(|&v| v == number)
+            .unwrap_or(values.len());
+        self.rows[group][row][self.quiet] += 1;
+    }
+
+    fn take(&mut self, line: &[u8], answer: &[u8]) {
+        let Some(tick) = Tick::read(line) else {
+            self.malformed += 1;
+            return;
+        };
+        if tick.start > 0 {
+            self.quiet = tick.start as usize - 1;
+            self.last = None;
+        }
+        let words: Vec<&str> = str::from_utf8(answer).unwrap_or("").split(' ').collect();
+        let number = |index: usize| words.get(index).and_then(|w| w.parse().ok()).unwrap_or(-1);
+        if words[0] == "refused" {
+            self.count(REFUSED, number(1));
+            return;
+        }
+        self.accepted[self.quiet] += 1;
+        for output in 0..5 {
+            self.count(output, number(5 + output));
+        }
+        self.count(5, tick.mode);
+        self.count(6, tick.airflow);
+        self.count(7, tick.damper);
+        match self.last {
+            None => self.count(9, tick.t as i64),
+            Some(last) => self.count(10, (tick.t - last) as i64),
+        }
+        if number(9) == 4 && number(7) != 0 {
+            self.count(11, number(7));
+        }
+        self.count(12, tick.status as i64);
+        self.last = Some(tick.t);
+    }
+
+    /// Print the table; true if every row that can be visited was, from both starts.
+    fn print(&self) -> bool {
+        let line = |name: &str, n: [u64; 2]| println!("{name:<30} {:>10} {:>10}", n[0], n[1]);
+        println!("{:<30} {:>10} {:>10}", "", "plain", "quiet");
+        line("accepted", self.accepted);
+        let mut whole = self.malformed > 0;
+        for (group, rows) in GROUPS.iter().zip(&self.rows) {
+            for (index, &row) in rows.iter().enumerate() {
+                let other = index == group.values.len();
+                if other && !group.open && row == [0, 0] {
+                    continue;
+                }
+                let value = group
+                    .values
+                    .get(index)
+                    .map_or("other".into(), i64::to_string);
+                line(&format!("{} {value}", group.name), row);
+                // A number that a closed group does not know means that no level list is whole.
+                whole &= row[0] > 0 && row[1] > 0 && (!other || group.open);
+            }
+        }
+        println!("{:<30} {:>10}", "malformed", self.malformed);
+        whole
+    }
+}
+
+/// The lines of a file, one after another, without their newlines.
+struct Lines(BufReader<File>);
+
+impl Lines {
+    fn open(path: &str) -> Lines {
+        let file = File::open(path).unwrap_or_else(|e| panic!("{path}: {e}"));
+        Lines(BufReader::with_capacity(1 << 20, file))
+    }
+
+    /// The next line with its newline; empty at the end of the file.
+    fn next<'a>(&mut self, line: &'a mut Vec<u8>) -> io::Result<&'a [u8]> {
+        line.clear();
+        self.0.read_until(b'\n', line)?;
+        Ok(line)
+    }
+}
+
+fn show(line: &[u8]) -> String {
+    if line.is_empty() {
+        return "(nothing)".into();
+    }
+    String::from_utf8_lossy(line.strip_suffix(b"\n").unwrap_or(line)).into_owned()
+}
+
+/// Read the files side by side; the difference, if there is one, as a text.
+fn walk(paths: &[String], table: &mut Table) -> io::Result<(u64, Option<String>)> {
+    let mut files: Vec<Lines> = paths.iter().map(|path| Lines::open(path)).collect();
+    let (mut a, mut b, mut c) = (Vec::new(), Vec::new(), Vec::new());
+    let mut lines = 0;
+    loop {
+        let line = files[0].next(&mut a)?;
+        let answer = files[1].next(&mut b)?;
+        let other = files.get_mut(2).map(|file| file.next(&mut c)).transpose()?;
+        if line.is_empty() && answer.is_empty() && other.unwrap_or(&[]).is_empty() {
+            return Ok((lines, None));
+        }
+        lines += 1;
+        if other.is_some_and(|other| other != answer) || line.is_empty() || answer.is_empty() {
+            let port = other.map_or(String::new(), |other| {
+                format!("\n  port      {}", show(other))
+            });
+            let text = format!(
+                "  input     {}\n  reference {}{port}",
+                show(line),
+                show(answer)
+            );
+            return Ok((lines, Some(text)));
+        }
+        table.take(
+            line.strip_suffix(b"\n").unwrap_or(line),
+            answer.strip_suffix(b"\n").unwrap_or(answer),
+        );
+    }
+}
+
+fn main() -> io::Result<ExitCode> {
+    let mut paths: Vec<String> = std::env::args().skip(1).collect();
+    let ask_whole = paths.first().is_some_and(|word| word == "--whole");
+    if ask_whole {
+        paths.remove(0);
+    }
+    if !(2..=3).contains(&paths.len()) {
+        eprintln!("usage: tally [--whole] TICKS ANSWERS [PORT]");
+        return Ok(ExitCode::from(2));
+    }
+    let mut table = Table::new();
+    let (lines, difference) = walk(&paths, &mut table)?;
+    let whole = table.print();
+    if let Some(text) = difference {
+        println!("line {lines} differs\n{text}");
+        return Ok(ExitCode::FAILURE);
+    }
+    if ask_whole && !whole {
+        println!("not everything was visited");
+        return Ok(ExitCode::FAILURE);
+    }
+    if paths.len() == 3 {
+        println!("{lines} ticks, every bit equal");
+    }
+    Ok(ExitCode::SUCCESS)
+}
