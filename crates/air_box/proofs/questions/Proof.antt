@@ -5,59 +5,35 @@ use borrow.Author.Needs.{needs}
 use Rattle.air_box.proofs.questions.Statement.{statement}
 use Rattle.air_box.proofs.questions.Tie as tie
 
-is-whole-requires : tie.Need-is-whole-requires
-is-whole-requires c κs = search needs
-
 returns : tie.Need-returns
 unfolding questions ofBits round neg
 returns c =
     rw (← c .before .is-whole .ensures, c .if1 .taken)
-
-within-requires : tie.Need-within-requires
-within-requires c κs = search needs
 
 returns-2 : tie.Need-returns-2
 unfolding questions ofBits round neg
 returns-2 c =
     rw (← c .before .before .before .is-whole .ensures, c .before .before .if1 .left, ← c .before .within .ensures, c .if2 .taken)
 
-at-or-after-requires : tie.Need-at-or-after-requires
-at-or-after-requires c κs = search needs
-
 returns-3 : tie.Need-returns-3
 unfolding questions ofBits round neg
 returns-3 c =
     rw (← c .before .before .before .before .before .is-whole .ensures, c .before .before .before .before .if1 .left, ← c .before .before .before .within .ensures, c .before .before .if2 .left, ← c .before .at-or-after .ensures, c .if3 .taken)
-
-soon-after-requires : tie.Need-soon-after-requires
-soon-after-requires c κs = search needs
 
 returns-4 : tie.Need-returns-4
 unfolding questions ofBits round neg
 returns-4 c =
     rw (← c .before .before .before .before .before .before .before .is-whole .ensures, c .before .before .before .before .before .before .if1 .left, ← c .before .before .before .before .before .within .ensures, c .before .before .before .before .if2 .left, ← c .before .before .before .at-or-after .ensures, c .before .before .if3 .left, ← c .before .soon-after .ensures, c .if4 .taken)
 
-temperatures-within-requires : tie.Need-temperatures-within-requires
-temperatures-within-requires c κs = search needs
-
 returns-5 : tie.Need-returns-5
 unfolding questions ofBits round neg
 returns-5 c =
     rw (← c .before .before .before .before .before .before .before .before .before .is-whole .ensures, c .before .before .before .before .before .before .before .before .if1 .left, ← c .before .before .before .before .before .before .before .within .ensures, c .before .before .before .before .before .before .if2 .left, ← c .before .before .before .before .before .at-or-after .ensures, c .before .before .before .before .if3 .left, ← c .before .before .before .soon-after .ensures, c .before .before .if4 .left, ← c .before .temperatures-within .ensures, c .if5 .taken)
 
-within-requires-2 : tie.Need-within-requires-2
-within-requires-2 c κs = search needs
-
-within-requires-3 : tie.Need-within-requires-3
-within-requires-3 c κs = search needs
-
 returns-6 : tie.Need-returns-6
 unfolding questions ofBits round neg
 returns-6 c =
     rw (← c .before .before .before .before .before .before .before .before .before .before .before .before .is-whole .ensures, c .before .before .before .before .before .before .before .before .before .before .before .if1 .left, ← c .before .before .before .before .before .before .before .before .before .before .within .ensures, c .before .before .before .before .before .before .before .before .before .if2 .left, ← c .before .before .before .before .before .before .before .before .at-or-after .ensures, c .before .before .before .before .before .before .before .if3 .left, ← c .before .before .before .before .before .before .soon-after .ensures, c .before .before .before .before .before .if4 .left, ← c .before .before .before .before .temperatures-within .ensures, c .before .before .before .if5 .left, ← c .before .before .within2 .ensures, ← c .before .within3 .ensures, c .if6 .taken)
-
-within-requires-4 : tie.Need-within-requires-4
-within-requires-4 c κs = search needs
 
 returns-7 : tie.Need-returns-7
 unfolding questions ofBits round neg
@@ -73,19 +49,19 @@ pub questions-spec : {M : Type 1} → statement M
 questions-spec =
     tie.close
     (tie.spec
-    is-whole-requires
+    (λ c κs. search needs)
     returns
-    within-requires
+    (λ c κs. search needs)
     returns-2
-    at-or-after-requires
+    (λ c κs. search needs)
     returns-3
-    soon-after-requires
+    (λ c κs. search needs)
     returns-4
-    temperatures-within-requires
+    (λ c κs. search needs)
     returns-5
-    within-requires-2
-    within-requires-3
+    (λ c κs. search needs)
+    (λ c κs. search needs)
     returns-6
-    within-requires-4
+    (λ c κs. search needs)
     returns-7
     returns-8)

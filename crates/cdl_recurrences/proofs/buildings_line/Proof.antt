@@ -4,12 +4,9 @@ use borrow.Author.Needs.{needs}
 use Rattle.cdl_recurrences.proofs.buildings_line.Statement.{statement}
 use Rattle.cdl_recurrences.proofs.buildings_line.Tie as tie
 
-clamp-requires : tie.Need-clamp-requires
-clamp-requires c κs = search needs
-
 returns : tie.Need-returns
 unfolding buildings-line
 returns c = rw (c .clamp .ensures)
 
 pub buildings-line-spec : {M : Type 1} → statement M
-buildings-line-spec = tie.close (tie.spec clamp-requires returns)
+buildings-line-spec = tie.close (tie.spec (λ c κs. search needs) returns)

@@ -5,12 +5,6 @@ use borrow.Author.Needs.{needs}
 use Rattle.cdl_recurrences.proofs.buildings_round_six.Statement.{statement}
 use Rattle.cdl_recurrences.proofs.buildings_round_six.Tie as tie
 
-floor-requires : tie.Need-floor-requires
-floor-requires c κs = search needs
-
-ceil-requires : tie.Need-ceil-requires
-ceil-requires c κs = search needs
-
 returns : tie.Need-returns
 unfolding buildings-round-six ofBits round
 returns c = rw (c .floor .ensures, c .before .if1 .taken)
@@ -20,4 +14,4 @@ unfolding buildings-round-six ofBits round
 returns-2 c = rw (c .ceil .ensures, c .before .if1 .left)
 
 pub buildings-round-six-spec : {M : Type 1} → statement M
-buildings-round-six-spec = tie.close (tie.spec floor-requires ceil-requires returns returns-2)
+buildings-round-six-spec = tie.close (tie.spec (λ c κs. search needs) (λ c κs. search needs) returns returns-2)

@@ -5,13 +5,10 @@ use borrow.Author.Needs.{needs}
 use Rattle.cdl_recurrences.proofs.sample_due.Statement.{statement}
 use Rattle.cdl_recurrences.proofs.sample_due.Tie as tie
 
-sample-index-requires : tie.Need-sample-index-requires
-sample-index-requires c κs = search needs
-
 returns : tie.Need-returns
 unfolding sample-due
 returns c =
     rw (toZ-ofZ (c .before .fits .last-index), toZ-ofZ (record { sfits = c .sample-index .ok }), c .sample-index .ensures)
 
 pub sample-due-spec : {M : Type 1} → statement M
-sample-due-spec = tie.close (tie.spec sample-index-requires returns)
+sample-due-spec = tie.close (tie.spec (λ c κs. search needs) returns)

@@ -8,15 +8,9 @@ use borrow.Author.Needs.{needs}
 use Rattle.cdl_recurrences.proofs.sample_index.Statement.{statement}
 use Rattle.cdl_recurrences.proofs.sample_index.Tie as tie
 
-floor-requires : tie.Need-floor-requires
-floor-requires c κs = search needs
-
-as-i64-requires : tie.Need-as-i64-requires
-as-i64-requires c κs = search needs
-
 returns : tie.Need-returns
 unfolding sample-index
 returns c = toZ-ofZ w64 (c .as-i64 .result) (record { sfits = c .as-i64 .ok }) ∙ c .as-i64 .ensures ∙ ap (toSigned 63) (c .before .floor .ensures)
 
 pub sample-index-spec : {M : Type 1} → statement M
-sample-index-spec = tie.close (tie.spec floor-requires as-i64-requires returns)
+sample-index-spec = tie.close (tie.spec (λ c κs. search needs) (λ c κs. search needs) returns)

@@ -7,9 +7,6 @@ use borrow.Author.Needs.{needs}
 use Rattle.cdl_recurrences.proofs.sampler_output.Statement.{statement}
 use Rattle.cdl_recurrences.proofs.sampler_output.Tie as tie
 
-sample-due-requires : tie.Need-sample-due-requires
-sample-due-requires c κs = search needs
-
 returns : tie.Need-returns
 unfolding sampler-output
 returns c =
@@ -27,4 +24,4 @@ unfolding sampler-output
 returns-3 c = rw (c .if1 .left)
 
 pub sampler-output-spec : {M : Type 1} → statement M
-sampler-output-spec = tie.close (tie.spec sample-due-requires returns returns-2 returns-3)
+sampler-output-spec = tie.close (tie.spec (λ c κs. search needs) returns returns-2 returns-3)

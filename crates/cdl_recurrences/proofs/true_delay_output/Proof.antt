@@ -5,17 +5,11 @@ use borrow.Author.Needs.{needs}
 use Rattle.cdl_recurrences.proofs.true_delay_output.Statement.{statement}
 use Rattle.cdl_recurrences.proofs.true_delay_output.Tie as tie
 
-max-requires : tie.Need-max-requires
-max-requires c κs = search needs
-
 enum-told : tie.Need-enum-told
 enum-told c = search needs
 
 enum-known-prev-time : tie.Need-enum-known-prev-time
 enum-known-prev-time c = search needs
-
-true-delay-running-requires : tie.Need-true-delay-running-requires
-true-delay-running-requires c κs = search needs
 
 returns : tie.Need-returns
 unfolding true-delay-output ofBits
@@ -37,10 +31,10 @@ pub true-delay-output-spec : {M : Type 1} → statement M
 true-delay-output-spec =
     tie.close
     (tie.spec
-    max-requires
+    (λ c κs. search needs)
     enum-told
     enum-known-prev-time
-    true-delay-running-requires
+    (λ c κs. search needs)
     returns
     returns-2
     returns-3

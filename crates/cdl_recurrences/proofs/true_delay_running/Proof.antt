@@ -5,9 +5,6 @@ use borrow.Author.Needs.{needs}
 use Rattle.cdl_recurrences.proofs.true_delay_running.Statement.{statement}
 use Rattle.cdl_recurrences.proofs.true_delay_running.Tie as tie
 
-max-requires : tie.Need-max-requires
-max-requires c κs = search needs
-
 returns : tie.Need-returns
 unfolding true-delay-running
 returns c = rw (c .if1 .taken)
@@ -21,4 +18,4 @@ unfolding true-delay-running ofBits
 returns-3 c = rw (c .before .if1 .left, c .if2 .left)
 
 pub true-delay-running-spec : {M : Type 1} → statement M
-true-delay-running-spec = tie.close (tie.spec max-requires returns returns-2 returns-3)
+true-delay-running-spec = tie.close (tie.spec (λ c κs. search needs) returns returns-2 returns-3)

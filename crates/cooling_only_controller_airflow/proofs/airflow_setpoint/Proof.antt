@@ -8,18 +8,6 @@ use borrow.Author.Needs.{needs}
 use Rattle.cooling_only_controller_airflow.proofs.airflow_setpoint.Statement.{statement}
 use Rattle.cooling_only_controller_airflow.proofs.airflow_setpoint.Tie as tie
 
-buildings-line-requires : tie.Need-buildings-line-requires
-buildings-line-requires c κs = search needs
-
-choose-requires : tie.Need-choose-requires
-choose-requires c κs = search needs
-
-choose-requires-2 : tie.Need-choose-requires-2
-choose-requires-2 c κs = search needs
-
-airflow-override-requires : tie.Need-airflow-override-requires
-airflow-override-requires c κs = search needs
-
 returns : tie.Need-returns
 unfolding airflow-setpoint ofBits round
 returns c = rw (c .airflow-override .ensures, c .before .before .choose2 .ensures, c .before .before .before .before .before .choose .ensures, c .before .before .before .before .before .before .buildings-line .ensures, toZ-ofZ (record { sfits = c .before .struct-told2 .given .1 .1 .1 .1 .1 .1 .0 .1 }), equals-literal (c .before .before .before .before .before .before .before .args .input .«zone_state») 3 (record { sfits = c .before .before .before .struct-told .given .1 .1 .1 .1 .1 .0 .1 }) (lit< tt))
@@ -28,8 +16,8 @@ pub airflow-setpoint-spec : {M : Type 1} → statement M
 airflow-setpoint-spec =
     tie.close
     (tie.spec
-    buildings-line-requires
-    choose-requires
-    choose-requires-2
-    airflow-override-requires
+    (λ c κs. search needs)
+    (λ c κs. search needs)
+    (λ c κs. search needs)
+    (λ c κs. search needs)
     returns)

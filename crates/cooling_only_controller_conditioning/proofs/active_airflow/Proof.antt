@@ -8,15 +8,9 @@ use borrow.Author.Needs.{needs}
 use Rattle.cooling_only_controller_conditioning.proofs.active_airflow.Statement.{statement}
 use Rattle.cooling_only_controller_conditioning.proofs.active_airflow.Tie as tie
 
-choose-requires : tie.Need-choose-requires
-choose-requires c κs = search needs
-
-choose-requires-2 : tie.Need-choose-requires-2
-choose-requires-2 c κs = search needs
-
 returns : tie.Need-returns
 unfolding active-airflow ofBits round
 returns c = rw (c .choose2 .ensures, c .before .choose .ensures, toZ-ofZ (c .before .before .fits .operating-mode), equals-literal (c .before .before .args .operating-mode) 1 (c .before .before .fits .operating-mode) (lit< tt))
 
 pub active-airflow-spec : {M : Type 1} → statement M
-active-airflow-spec = tie.close (tie.spec choose-requires choose-requires-2 returns)
+active-airflow-spec = tie.close (tie.spec (λ c κs. search needs) (λ c κs. search needs) returns)

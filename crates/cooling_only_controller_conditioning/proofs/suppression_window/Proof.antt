@@ -7,15 +7,9 @@ use Rattle.cooling_only_controller_conditioning.proofs.suppression_wind
 }
 use Rattle.cooling_only_controller_conditioning.proofs.suppression_window.Tie as tie
 
-abs-requires : tie.Need-abs-requires
-abs-requires c κs = search needs
-
-min-requires : tie.Need-min-requires
-min-requires c κs = search needs
-
 returns : tie.Need-returns
 unfolding suppression-window ofBits round
 returns c = rw (c .min .ensures, c .before .abs .ensures)
 
 pub suppression-window-spec : {M : Type 1} → statement M
-suppression-window-spec = tie.close (tie.spec abs-requires min-requires returns)
+suppression-window-spec = tie.close (tie.spec (λ c κs. search needs) (λ c κs. search needs) returns)

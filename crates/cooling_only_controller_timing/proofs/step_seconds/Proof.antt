@@ -10,9 +10,6 @@ enum-told c = search needs
 enum-known-previous-time : tie.Need-enum-known-previous-time
 enum-known-previous-time c = search needs
 
-max-requires : tie.Need-max-requires
-max-requires c κs = search needs
-
 returns : tie.Need-returns
 unfolding ofBits
 returns c = rw (c .enum-told .given .1)
@@ -23,4 +20,4 @@ returns-2 c = rw (c .max .ensures, c .before .before .previous-time .given .1)
 
 pub step-seconds-spec : {M : Type 1} → statement M
 step-seconds-spec =
-    tie.close (tie.spec enum-told enum-known-previous-time max-requires returns returns-2)
+    tie.close (tie.spec enum-told enum-known-previous-time (λ c κs. search needs) returns returns-2)

@@ -6,11 +6,8 @@ use Rattle.f64_helpers.proofs.Facts.{neg-floor}
 use Rattle.f64_helpers.proofs.ceil.Statement.{statement}
 use Rattle.f64_helpers.proofs.ceil.Tie as tie
 
-floor-requires : tie.Need-floor-requires
-floor-requires c κs = search needs
-
 returns : tie.Need-returns
 returns c = ap neg (c .floor .ensures) ∙ neg-floor (c .before .args .x)
 
 pub ceil-spec : {M : Type 1} → statement M
-ceil-spec = tie.close (tie.spec floor-requires returns)
+ceil-spec = tie.close (tie.spec (λ c κs. search needs) returns)

@@ -19,9 +19,6 @@ truncating-f64-to-u64-requires : tie.Need-truncating-f64-to-u64-requires
 unfolding ofBits
 truncating-f64-to-u64-requires c κs = (above-minus-one (c .before .args .x) (c .before .pre), below-2-64 (c .before .args .x) (yes (c .if1 .taken)))
 
-nearest-u64-to-f64-requires : tie.Need-nearest-u64-to-f64-requires
-nearest-u64-to-f64-requires c κs = search needs
-
 -- the whole part is below 2 ^ 52, so one more fits
 add-nearest-u64-to-f64 : tie.Need-add-nearest-u64-to-f64
 unfolding ofBits
@@ -30,9 +27,6 @@ add-nearest-u64-to-f64 c =
     room (c .before .before .truncating-f64-to-u64 .result)
     (subst (λ (n : ℕ). n < 4503599627370496) (sym (c .before .before .truncating-f64-to-u64 .ensures))
     (count-small (s .args .x) (s .pre) (yes (c .before .before .before .if1 .taken))))
-
-nearest-u64-to-f64-requires-2 : tie.Need-nearest-u64-to-f64-requires-2
-nearest-u64-to-f64-requires-2 c κs = search needs
 
 returns : tie.Need-returns
 unfolding ofBits
@@ -63,9 +57,9 @@ ceil-of-positive-spec =
     tie.close
     (tie.spec
     truncating-f64-to-u64-requires
-    nearest-u64-to-f64-requires
+    (λ c κs. search needs)
     add-nearest-u64-to-f64
-    nearest-u64-to-f64-requires-2
+    (λ c κs. search needs)
     returns
     returns-2
     returns-3)

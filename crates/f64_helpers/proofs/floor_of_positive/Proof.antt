@@ -12,9 +12,6 @@ truncating-f64-to-u64-requires : tie.Need-truncating-f64-to-u64-requires
 unfolding ofBits
 truncating-f64-to-u64-requires c κs = (above-minus-one (c .before .args .x) (c .before .pre), below-2-64 (c .before .args .x) (yes (c .if1 .taken)))
 
-nearest-u64-to-f64-requires : tie.Need-nearest-u64-to-f64-requires
-nearest-u64-to-f64-requires c κs = search needs
-
 returns : tie.Need-returns
 unfolding ofBits
 returns c =
@@ -29,4 +26,4 @@ returns-2 c = sym (floor-large (c .before .args .x) (yes (c .before .good .0 .1)
 pub floor-of-positive-spec : {M : Type 1} → statement M
 floor-of-positive-spec =
     tie.close
-    (tie.spec truncating-f64-to-u64-requires nearest-u64-to-f64-requires returns returns-2)
+    (tie.spec truncating-f64-to-u64-requires (λ c κs. search needs) returns returns-2)

@@ -6,11 +6,8 @@ use Rattle.f64_helpers.proofs.Signs.{neg-larger}
 use Rattle.f64_helpers.proofs.min.Statement.{statement}
 use Rattle.f64_helpers.proofs.min.Tie as tie
 
-max-requires : tie.Need-max-requires
-max-requires c κs = search needs
-
 returns : tie.Need-returns
 returns c = ap neg (c .max .ensures) ∙ neg-larger (c .before .args .a) (c .before .args .b)
 
 pub min-spec : {M : Type 1} → statement M
-min-spec = tie.close (tie.spec max-requires returns)
+min-spec = tie.close (tie.spec (λ c κs. search needs) returns)

@@ -4,15 +4,9 @@ use borrow.Author.Needs.{needs}
 use Rattle.air_box.proofs.AirBox.accepted.Statement.{statement}
 use Rattle.air_box.proofs.AirBox.accepted.Tie as tie
 
-delay-on-init-requires : tie.Need-delay-on-init-requires
-delay-on-init-requires c κs = search needs
-
-output-requires : tie.Need-output-requires
-output-requires c κs = search needs
-
 returns : tie.Need-returns
 unfolding accepted-tick
 returns c = rw (c .before .before .output .ensures, c .before .before .before .before .delay-on-init .ensures)
 
 pub accepted-spec : {M : Type 1} → statement M
-accepted-spec = tie.close (tie.spec delay-on-init-requires output-requires returns)
+accepted-spec = tie.close (tie.spec (λ c κs. search needs) (λ c κs. search needs) returns)

@@ -4,17 +4,11 @@ use borrow.Author.Needs.{needs}
 use Rattle.air_box.proofs.AirBox.tick.Statement.{statement}
 use Rattle.air_box.proofs.AirBox.tick.Tie as tie
 
-questions-requires : tie.Need-questions-requires
-questions-requires c κs = search needs
-
 enum-known-verdict : tie.Need-enum-known-verdict
 enum-known-verdict c = search needs
 
 enum-told : tie.Need-enum-told
 enum-told c = search needs
-
-accepted-requires : tie.Need-accepted-requires
-accepted-requires c κs = search needs
 
 returns : tie.Need-returns
 unfolding tick
@@ -27,4 +21,4 @@ returns-2 c = rw (c .accepted .ensures, ← c .before .before .before .questions
 pub tick-spec : {M : Type 1} → statement M
 tick-spec =
     tie.close
-    (tie.spec questions-requires enum-known-verdict enum-told accepted-requires returns returns-2)
+    (tie.spec (λ c κs. search needs) enum-known-verdict enum-told (λ c κs. search needs) returns returns-2)

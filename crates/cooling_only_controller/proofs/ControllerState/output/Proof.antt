@@ -73,45 +73,6 @@ unfolding controller-output
 whole-from s t input delay-on-init after loops wanted-setpoints flows active zone wanted-flow air wanted-requests requests wanted-alarms alarms-now out e0 e1 e2 e3 e4 e5 e6 e7 e8 e9 e10 e11 e12 =
     rw (e12, e11, e10, e9, e8, e7, e6, e5, e4, e3, e2, e1, e0)
 
-output-requires : tie.Need-output-requires
-output-requires c κs = search needs
-
-output-requires-2 : tie.Need-output-requires-2
-output-requires-2 c κs = search needs
-
-setpoint-input-requires : tie.Need-setpoint-input-requires
-setpoint-input-requires c κs = search needs
-
-output-requires-3 : tie.Need-output-requires-3
-output-requires-3 c κs = search needs
-
-active-airflow-requires : tie.Need-active-airflow-requires
-active-airflow-requires c κs = search needs
-
-output-requires-4 : tie.Need-output-requires-4
-output-requires-4 c κs = search needs
-
-damper-input-requires : tie.Need-damper-input-requires
-damper-input-requires c κs = search needs
-
-output-requires-5 : tie.Need-output-requires-5
-output-requires-5 c κs = search needs
-
-request-input-requires : tie.Need-request-input-requires
-request-input-requires c κs = search needs
-
-output-requires-6 : tie.Need-output-requires-6
-output-requires-6 c κs = search needs
-
-alarm-input-requires : tie.Need-alarm-input-requires
-alarm-input-requires c κs = search needs
-
-output-requires-7 : tie.Need-output-requires-7
-output-requires-7 c κs = search needs
-
-controller-output-requires : tie.Need-controller-output-requires
-controller-output-requires c κs = search needs
-
 returns : tie.Need-returns
 returns c =
     let mode = toZ-ofZ {w = w64} {z = c .before .before .before .before .before .before .before .before .before .before .before .before .before .before .before .before .before .before .before .before .before .before .before .before .before .before .before .args .input .«operating_mode»} (record { sfits = c .before .before .before .before .before .before .before .before .before .before .before .before .before .before .before .before .before .before .before .before .struct-told .given .1 .1 .1 .1 .1 .0 .1 }) in
@@ -148,17 +109,17 @@ pub output-spec : {M : Type 1} → statement M
 output-spec =
     tie.close
     (tie.spec
-    output-requires
-    output-requires-2
-    setpoint-input-requires
-    output-requires-3
-    active-airflow-requires
-    output-requires-4
-    damper-input-requires
-    output-requires-5
-    request-input-requires
-    output-requires-6
-    alarm-input-requires
-    output-requires-7
-    controller-output-requires
+    (λ c κs. search needs)
+    (λ c κs. search needs)
+    (λ c κs. search needs)
+    (λ c κs. search needs)
+    (λ c κs. search needs)
+    (λ c κs. search needs)
+    (λ c κs. search needs)
+    (λ c κs. search needs)
+    (λ c κs. search needs)
+    (λ c κs. search needs)
+    (λ c κs. search needs)
+    (λ c κs. search needs)
+    (λ c κs. search needs)
     returns)

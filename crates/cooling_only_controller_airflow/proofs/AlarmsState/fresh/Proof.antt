@@ -4,12 +4,9 @@ use borrow.Author.Needs.{needs}
 use Rattle.cooling_only_controller_airflow.proofs.AlarmsState.fresh.Statement.{statement}
 use Rattle.cooling_only_controller_airflow.proofs.AlarmsState.fresh.Tie as tie
 
-fresh-requires : tie.Need-fresh-requires
-fresh-requires c κs = search needs
-
 returns : tie.Need-returns
 unfolding ofBits
 returns c = rw (c .fresh .ensures)
 
 pub fresh-spec : {M : Type 1} → statement M
-fresh-spec = tie.close (tie.spec fresh-requires returns)
+fresh-spec = tie.close (tie.spec (λ c κs. search needs) returns)

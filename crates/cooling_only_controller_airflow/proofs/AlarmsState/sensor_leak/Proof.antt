@@ -10,24 +10,6 @@ use Rattle.cooling_only_controller_airflow.proofs.AlarmsState.sensor_le
 }
 use Rattle.cooling_only_controller_airflow.proofs.AlarmsState.sensor_leak.Tie as tie
 
-greater-hysteretic-requires : tie.Need-greater-hysteretic-requires
-greater-hysteretic-requires c κs = search needs
-
-output-requires : tie.Need-output-requires
-output-requires c κs = search needs
-
-alarm-level-requires : tie.Need-alarm-level-requires
-alarm-level-requires c κs = search needs
-
-less-hysteretic-requires : tie.Need-less-hysteretic-requires
-less-hysteretic-requires c κs = search needs
-
-output-requires-2 : tie.Need-output-requires-2
-output-requires-2 c κs = search needs
-
-alarm-level-requires-2 : tie.Need-alarm-level-requires-2
-alarm-level-requires-2 c κs = search needs
-
 returns : tie.Need-returns
 unfolding sensor-leak-alarms ofBits round
 returns c = rw (toZ-ofZ (record { sfits = c .before .before .before .before .before .alarm-level .ok }), toZ-ofZ (record { sfits = c .before .before .alarm-level2 .ok }), c .before .before .alarm-level2 .ensures, c .before .before .before .output2 .ensures, c .before .before .before .before .less-hysteretic .ensures, c .before .before .before .before .before .alarm-level .ensures, c .before .before .before .before .before .before .before .output .ensures, c .before .before .before .before .before .before .before .before .greater-hysteretic .ensures, equals-literal (c .before .before .before .before .before .before .before .before .before .before .before .args .input .«operation_mode») 1 (record { sfits = c .before .before .before .before .before .before .before .before .before .struct-told .given .1 .1 .1 .0 .1 }) (lit< tt))
@@ -36,10 +18,10 @@ pub sensor-leak-spec : {M : Type 1} → statement M
 sensor-leak-spec =
     tie.close
     (tie.spec
-    greater-hysteretic-requires
-    output-requires
-    alarm-level-requires
-    less-hysteretic-requires
-    output-requires-2
-    alarm-level-requires-2
+    (λ c κs. search needs)
+    (λ c κs. search needs)
+    (λ c κs. search needs)
+    (λ c κs. search needs)
+    (λ c κs. search needs)
+    (λ c κs. search needs)
     returns)

@@ -6,15 +6,6 @@ use Rattle.cooling_only_controller_airflow.proofs.SystemRequestsState.o
 }
 use Rattle.cooling_only_controller_airflow.proofs.SystemRequestsState.output.Tie as tie
 
-temperature-request-requires : tie.Need-temperature-request-requires
-temperature-request-requires c κs = search needs
-
-pressure-request-requires : tie.Need-pressure-request-requires
-pressure-request-requires c κs = search needs
-
-system-requests-step-requires : tie.Need-system-requests-step-requires
-system-requests-step-requires c κs = search needs
-
 returns : tie.Need-returns
 unfolding system-requests
 returns c = rw (c .system-requests-step .ensures, c .before .pressure-request .ensures, c .before .before .temperature-request .ensures)
@@ -23,7 +14,7 @@ pub output-spec : {M : Type 1} → statement M
 output-spec =
     tie.close
     (tie.spec
-    temperature-request-requires
-    pressure-request-requires
-    system-requests-step-requires
+    (λ c κs. search needs)
+    (λ c κs. search needs)
+    (λ c κs. search needs)
     returns)

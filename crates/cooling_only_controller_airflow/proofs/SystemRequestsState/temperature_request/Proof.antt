@@ -8,27 +8,6 @@ use Rattle.cooling_only_controller_airflow.proofs.SystemRequestsState.t
 }
 use Rattle.cooling_only_controller_airflow.proofs.SystemRequestsState.temperature_request.Tie as tie
 
-hysteresis-requires : tie.Need-hysteresis-requires
-hysteresis-requires c κs = search needs
-
-hysteresis-requires-2 : tie.Need-hysteresis-requires-2
-hysteresis-requires-2 c κs = search needs
-
-output-requires : tie.Need-output-requires
-output-requires c κs = search needs
-
-output-requires-2 : tie.Need-output-requires-2
-output-requires-2 c κs = search needs
-
-sample-requires : tie.Need-sample-requires
-sample-requires c κs = search needs
-
-hysteresis-requires-3 : tie.Need-hysteresis-requires-3
-hysteresis-requires-3 c κs = search needs
-
-request-level-requires : tie.Need-request-level-requires
-request-level-requires c κs = search needs
-
 returns : tie.Need-returns
 unfolding temperature-request ofBits round
 returns c = rw (toZ-ofZ (record { sfits = c .before .before .before .request-level .ok }), c .before .before .before .request-level .ensures, c .before .before .before .before .before .before .before .before .hysteresis3 .ensures, c .before .before .before .before .before .before .before .before .before .sample .ensures, c .before .before .before .before .before .before .before .before .before .before .output2 .ensures, c .before .before .before .before .before .before .before .before .before .before .before .output .ensures, c .before .before .before .before .before .before .before .before .before .before .before .before .hysteresis2 .ensures, c .before .before .before .before .before .before .before .before .before .before .before .before .before .hysteresis .ensures)
@@ -37,11 +16,11 @@ pub temperature-request-spec : {M : Type 1} → statement M
 temperature-request-spec =
     tie.close
     (tie.spec
-    hysteresis-requires
-    hysteresis-requires-2
-    output-requires
-    output-requires-2
-    sample-requires
-    hysteresis-requires-3
-    request-level-requires
+    (λ c κs. search needs)
+    (λ c κs. search needs)
+    (λ c κs. search needs)
+    (λ c κs. search needs)
+    (λ c κs. search needs)
+    (λ c κs. search needs)
+    (λ c κs. search needs)
     returns)

@@ -7,18 +7,9 @@ use Rattle.cooling_only_controller_conditioning.proofs.LoopPiState.outp
 }
 use Rattle.cooling_only_controller_conditioning.proofs.LoopPiState.output.Tie as tie
 
-clamp-requires : tie.Need-clamp-requires
-clamp-requires c κs = search needs
-
-step-seconds-requires : tie.Need-step-seconds-requires
-step-seconds-requires c κs = search needs
-
-choose-requires : tie.Need-choose-requires
-choose-requires c κs = search needs
-
 returns : tie.Need-returns
 unfolding loop-pi ofBits round neg
 returns c = rw (c .choose .ensures, c .before .before .before .step-seconds .ensures, c .before .before .before .before .clamp .ensures)
 
 pub output-spec : {M : Type 1} → statement M
-output-spec = tie.close (tie.spec clamp-requires step-seconds-requires choose-requires returns)
+output-spec = tie.close (tie.spec (λ c κs. search needs) (λ c κs. search needs) (λ c κs. search needs) returns)

@@ -9,42 +9,6 @@ use Rattle.cooling_only_controller_conditioning.proofs.SetpointsState.o
 }
 use Rattle.cooling_only_controller_conditioning.proofs.SetpointsState.output.Tie as tie
 
-greater-hysteretic-requires : tie.Need-greater-hysteretic-requires
-greater-hysteretic-requires c κs = search needs
-
-buildings-line-requires : tie.Need-buildings-line-requires
-buildings-line-requires c κs = search needs
-
-choose-requires : tie.Need-choose-requires
-choose-requires c κs = search needs
-
-buildings-line-requires-2 : tie.Need-buildings-line-requires-2
-buildings-line-requires-2 c κs = search needs
-
-buildings-line-requires-3 : tie.Need-buildings-line-requires-3
-buildings-line-requires-3 c κs = search needs
-
-unless-requires : tie.Need-unless-requires
-unless-requires c κs = search needs
-
-unless-requires-2 : tie.Need-unless-requires-2
-unless-requires-2 c κs = search needs
-
-unless-requires-3 : tie.Need-unless-requires-3
-unless-requires-3 c κs = search needs
-
-unless-requires-4 : tie.Need-unless-requires-4
-unless-requires-4 c κs = search needs
-
-unless-requires-5 : tie.Need-unless-requires-5
-unless-requires-5 c κs = search needs
-
-unless-requires-6 : tie.Need-unless-requires-6
-unless-requires-6 c κs = search needs
-
-choose-requires-2 : tie.Need-choose-requires-2
-choose-requires-2 c κs = search needs
-
 returns : tie.Need-returns
 unfolding setpoints ofBits round
 returns c = rw (c .choose2 .ensures, c .before .unless6 .ensures, c .before .before .unless5 .ensures, c .before .before .before .unless4 .ensures, c .before .before .before .before .unless3 .ensures, c .before .before .before .before .before .unless2 .ensures, c .before .before .before .before .before .before .unless .ensures, c .before .before .before .before .before .before .before .before .buildings-line3 .ensures, c .before .before .before .before .before .before .before .before .before .buildings-line2 .ensures, c .before .before .before .before .before .before .before .before .before .before .choose .ensures, c .before .before .before .before .before .before .before .before .before .before .before .buildings-line .ensures, c .before .before .before .before .before .before .before .before .before .before .before .before .before .before .before .before .greater-hysteretic .ensures, equals-literal (c .before .before .before .before .before .before .before .before .before .before .before .before .before .before .before .before .before .args .input .«operating_mode») 1 (record { sfits = c .before .before .before .before .before .before .before .before .before .before .before .before .before .before .struct-told .given .1 .1 .0 .1 }) (lit< tt))
@@ -53,16 +17,16 @@ pub output-spec : {M : Type 1} → statement M
 output-spec =
     tie.close
     (tie.spec
-    greater-hysteretic-requires
-    buildings-line-requires
-    choose-requires
-    buildings-line-requires-2
-    buildings-line-requires-3
-    unless-requires
-    unless-requires-2
-    unless-requires-3
-    unless-requires-4
-    unless-requires-5
-    unless-requires-6
-    choose-requires-2
+    (λ c κs. search needs)
+    (λ c κs. search needs)
+    (λ c κs. search needs)
+    (λ c κs. search needs)
+    (λ c κs. search needs)
+    (λ c κs. search needs)
+    (λ c κs. search needs)
+    (λ c κs. search needs)
+    (λ c κs. search needs)
+    (λ c κs. search needs)
+    (λ c κs. search needs)
+    (λ c κs. search needs)
     returns)

@@ -8,27 +8,6 @@ use Rattle.cooling_only_controller_conditioning.proofs.TimeSuppressionS
 }
 use Rattle.cooling_only_controller_conditioning.proofs.TimeSuppressionState.output.Tie as tie
 
-change-requires : tie.Need-change-requires
-change-requires c κs = search needs
-
-output-requires : tie.Need-output-requires
-output-requires c κs = search needs
-
-choose-requires : tie.Need-choose-requires
-choose-requires c κs = search needs
-
-choose-requires-2 : tie.Need-choose-requires-2
-choose-requires-2 c κs = search needs
-
-suppression-window-requires : tie.Need-suppression-window-requires
-suppression-window-requires c κs = search needs
-
-elapsed-requires : tie.Need-elapsed-requires
-elapsed-requires c κs = search needs
-
-output-requires-2 : tie.Need-output-requires-2
-output-requires-2 c κs = search needs
-
 either : (a p : Bool) → (not a || p) ≡ cond a p true
 either true p = refl
 either false p = refl
@@ -41,11 +20,11 @@ pub output-spec : {M : Type 1} → statement M
 output-spec =
     tie.close
     (tie.spec
-    change-requires
-    output-requires
-    choose-requires
-    choose-requires-2
-    suppression-window-requires
-    elapsed-requires
-    output-requires-2
+    (λ c κs. search needs)
+    (λ c κs. search needs)
+    (λ c κs. search needs)
+    (λ c κs. search needs)
+    (λ c κs. search needs)
+    (λ c κs. search needs)
+    (λ c κs. search needs)
     returns)

@@ -8,15 +8,6 @@ use Rattle.cooling_only_controller_timing.proofs.SamplerState.after_sam
 }
 use Rattle.cooling_only_controller_timing.proofs.SamplerState.after_sample.Tie as tie
 
-sample-due-requires : tie.Need-sample-due-requires
-sample-due-requires c κs = search needs
-
-initial-sample-time-requires : tie.Need-initial-sample-time-requires
-initial-sample-time-requires c κs = search needs
-
-sample-index-requires : tie.Need-sample-index-requires
-sample-index-requires c κs = search needs
-
 returns : tie.Need-returns
 unfolding sampler-after-sample
 returns c =
@@ -39,9 +30,9 @@ pub after-sample-spec : {M : Type 1} → statement M
 after-sample-spec =
     tie.close
     (tie.spec
-    sample-due-requires
-    initial-sample-time-requires
-    sample-index-requires
+    (λ c κs. search needs)
+    (λ c κs. search needs)
+    (λ c κs. search needs)
     returns
     returns-2
     returns-3)

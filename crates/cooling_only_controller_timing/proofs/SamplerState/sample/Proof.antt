@@ -6,12 +6,6 @@ use borrow.Author.Needs.{needs}
 use Rattle.cooling_only_controller_timing.proofs.SamplerState.sample.Statement.{statement}
 use Rattle.cooling_only_controller_timing.proofs.SamplerState.sample.Tie as tie
 
-sampler-output-requires : tie.Need-sampler-output-requires
-sampler-output-requires c κs = search needs
-
-after-sample-requires : tie.Need-after-sample-requires
-after-sample-requires c κs = search needs
-
 returns : tie.Need-returns
 unfolding sampler-sample
 returns c =
@@ -19,4 +13,4 @@ returns c =
     rw (c .after-sample .ensures, rw last at (c .before .sampler-output .ensures))
 
 pub sample-spec : {M : Type 1} → statement M
-sample-spec = tie.close (tie.spec sampler-output-requires after-sample-requires returns)
+sample-spec = tie.close (tie.spec (λ c κs. search needs) (λ c κs. search needs) returns)

@@ -6,9 +6,6 @@ use borrow.Author.Needs.{needs}
 use Rattle.cooling_only_controller_timing.proofs.TimerState.elapsed.Statement.{statement}
 use Rattle.cooling_only_controller_timing.proofs.TimerState.elapsed.Tie as tie
 
-seconds-since-requires : tie.Need-seconds-since-requires
-seconds-since-requires c κs = search needs
-
 returns : tie.Need-returns
 unfolding timer-elapsed
 returns c =
@@ -20,4 +17,4 @@ unfolding timer-elapsed ofBits
 returns-2 c = rw (c .if1 .left)
 
 pub elapsed-spec : {M : Type 1} → statement M
-elapsed-spec = tie.close (tie.spec seconds-since-requires returns returns-2)
+elapsed-spec = tie.close (tie.spec (λ c κs. search needs) returns returns-2)

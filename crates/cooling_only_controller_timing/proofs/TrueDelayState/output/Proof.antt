@@ -6,12 +6,9 @@ use Rattle.cooling_only_controller_timing.proofs.TrueDelayState.output.
 }
 use Rattle.cooling_only_controller_timing.proofs.TrueDelayState.output.Tie as tie
 
-true-delay-output-requires : tie.Need-true-delay-output-requires
-true-delay-output-requires c κs = search needs
-
 returns : tie.Need-returns
 unfolding true-delay
 returns c = rw (c .true-delay-output .ensures)
 
 pub output-spec : {M : Type 1} → statement M
-output-spec = tie.close (tie.spec true-delay-output-requires returns)
+output-spec = tie.close (tie.spec (λ c κs. search needs) returns)

@@ -9,18 +9,6 @@ use Rattle.cooling_only_controller_timing.proofs.UnitDelayState.first_s
 }
 use Rattle.cooling_only_controller_timing.proofs.UnitDelayState.first_sample.Tie as tie
 
-initial-sample-time-requires : tie.Need-initial-sample-time-requires
-initial-sample-time-requires c κs = search needs
-
-sample-index-requires : tie.Need-sample-index-requires
-sample-index-requires c κs = search needs
-
-nearest-i64-to-f64-requires : tie.Need-nearest-i64-to-f64-requires
-nearest-i64-to-f64-requires c κs = search needs
-
-abs-requires : tie.Need-abs-requires
-abs-requires c κs = search needs
-
 returns : tie.Need-returns
 unfolding unit-delay-first-sample ofBits round
 returns c =
@@ -41,9 +29,9 @@ pub first-sample-spec : {M : Type 1} → statement M
 first-sample-spec =
     tie.close
     (tie.spec
-    initial-sample-time-requires
-    sample-index-requires
-    nearest-i64-to-f64-requires
-    abs-requires
+    (λ c κs. search needs)
+    (λ c κs. search needs)
+    (λ c κs. search needs)
+    (λ c κs. search needs)
     returns
     returns-2)

@@ -8,12 +8,6 @@ use Rattle.cooling_only_controller_timing.proofs.UnitDelayState.sample.
 }
 use Rattle.cooling_only_controller_timing.proofs.UnitDelayState.sample.Tie as tie
 
-sample-due-requires : tie.Need-sample-due-requires
-sample-due-requires c κs = search needs
-
-first-sample-requires : tie.Need-first-sample-requires
-first-sample-requires c κs = search needs
-
 returns : tie.Need-returns
 unfolding unit-delay-sample
 returns c =
@@ -34,4 +28,4 @@ returns-3 c = rw (c .first-sample .ensures, c .before .if1 .left)
 
 pub sample-spec : {M : Type 1} → statement M
 sample-spec =
-    tie.close (tie.spec sample-due-requires first-sample-requires returns returns-2 returns-3)
+    tie.close (tie.spec (λ c κs. search needs) (λ c κs. search needs) returns returns-2 returns-3)
