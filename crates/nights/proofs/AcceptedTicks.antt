@@ -20,7 +20,7 @@ use Rattle.air_box.specs.declared.Tick.{Tick}
 use Rattle.air_box.specs.declared.Refusal.{Refusal}
 use Rattle.air_box.specs.declared.Verdict.{Verdict}
 use Rattle.air_box.specs.declared.Verdict.the-variants.{Refuse}
-use Rattle.nights.specs.Nights.{passes, accepts, last-accepted, accepted-ticks}
+use Rattle.nights.specs.Nights.{passes, accepts, accepted-ticks}
 use Rattle.nights.proofs.Histories.{extended}
 
 -- ---- a time that questions 1 and 2 let pass
@@ -93,19 +93,3 @@ pub accepted-in-turn : (last : OptionalTime) (ks : List Tick) → AcceptedInTurn
 accepted-in-turn last [] = tt
 accepted-in-turn last (k ∷ ks) =
     by-test (accepts last k) (λ e. rw e (rw e tt, accepted-in-turn (At (k .t)) ks)) (λ e. rw e (accepted-in-turn last ks))
-
-pub all-accepted : (h ks : List Tick) → AllAccepted h → AcceptedInTurn (newest-time h) ks → AllAccepted (extended h ks)
-all-accepted h [] a f = a
-all-accepted h (k ∷ ks) a f = all-accepted (k ∷ h) ks (f .0, a) (f .1)
-
-pub last-accepted-is-newest : (h ks : List Tick) → last-accepted (newest-time h) ks ≡ newest-time (extended h (accepted-ticks (newest-time h) ks))
-last-accepted-is-newest h [] = refl
-last-accepted-is-newest h (k ∷ ks) =
-    by-test (accepts (newest-time h) k) (λ e. rw e (last-accepted-is-newest (k ∷ h) ks)) (λ e. rw e (last-accepted-is-newest h ks))
-
-pub one-more-accepted : (last : OptionalTime) (ks : List Tick) (k : Tick) → T (accepts (last-accepted last ks) k) → accepted-ticks last (ks ++ (k ∷ [])) ≡ accepted-ticks last ks ++ (k ∷ [])
-one-more-accepted last [] k p = by-test (accepts last k) (λ e. rw e refl) (λ e. absurd (rw e at p))
-one-more-accepted last (j ∷ ks) k p =
-    by-test (accepts last j)
-    (λ e. rw e (ap (λ (l : List Tick). j ∷ l) (one-more-accepted (At (j .t)) ks k (rw e at p))))
-    (λ e. rw e (one-more-accepted last ks k (rw e at p)))

@@ -9,17 +9,16 @@ use lib.Dec.{T}
 use lib.Ieee.Fits.{and-i, and-l, and-r}
 use Rattle.f64_helpers.specs.F64.{decimal}
 use Rattle.f64_helpers.specs.Seconds.{seconds}
-use Rattle.cdl_recurrences.specs.declared.OptionalTime.{OptionalTime}
 use Rattle.cdl_recurrences.specs.declared.OptionalTime.the-variants.{Absent}
 use Rattle.cooling_only_controller_timing.proofs.TrueDelayLaw.{TrueSince, true-since-law}
 use Rattle.air_box.specs.AirBox.{fresh-box}
 use Rattle.air_box.specs.declared.Tick.{Tick}
 use Rattle.air_box.specs.declared.Start.the-variants.{Plain}
-use Rattle.nights.specs.Nights.{accepts, accepted-ticks, box-after, fan, mode, FlowHigh, HighFanOff}
-use Rattle.nights.specs.Demand3.{HighFanOffFor600, EveryNightExactly}
+use Rattle.nights.specs.Nights.{accepted-ticks, fan, mode, FlowHigh, HighFanOff}
+use Rattle.nights.specs.Demand3.{HighFanOffFor600, ExactAlong, EveryNightExactly}
 use Rattle.nights.proofs.Histories.{in-order, extended, in-order-extended, history-of-parts}
-use Rattle.nights.proofs.AcceptedTicks.{AllAccepted, accepted-in-turn, all-accepted, last-accepted-is-newest, one-more-accepted, newest-time}
-use Rattle.nights.proofs.SensorAlarm.{high-after, samples, alarm-at, alarm-is-three, alarm-three-or-none, delay-reached, samples-timed, accepted-output, accepted-alarm, answer-if-accepted, fresh-remembers, same-questions, remembers-after}
+use Rattle.nights.proofs.AcceptedTicks.{AllAccepted, AcceptedInTurn, accepted-in-turn, newest-time}
+use Rattle.nights.proofs.SensorAlarm.{high-after, samples, alarm-at, alarms-along, alarm-is-three, alarm-three-or-none, delay-reached, samples-timed, fresh-remembers, alarms-are}
 use Rattle.nights.proofs.FlowHighRule.{high-law}
 
 -- ---- the delay's input, said over the history
@@ -40,8 +39,8 @@ module _ (now : Tick) where
   -- The tick `start` is k or stands in h. Flow was high with the fan off at the ticks `since`.
   start-found : (h : List Tick) (k : Tick) (since : List Tick) → T (high-after (k ∷ h) && not (fan k)) → (seconds (k .t) + 600 ≤ seconds (now .t)) ⊎ Since h
       → HighFanOff (in-order (k ∷ h)) since → HighFanOffFor600 (in-order h ++ (k ∷ since)) now
-  start-found [] k since u o a = record { before = []; start = k; since = since; parts = refl; all = one-older [] k since u a; long = inr refl }
-  start-found (j ∷ h) k since u (inl l) a = record { before = in-order (j ∷ h); start = k; since = since; parts = refl; all = one-older (j ∷ h) k since u a; long = inl l }
+  start-found [] k since u o a = record { earlier = []; start = k; since = since; parts = refl; all = one-older [] k since u a; long = inr refl }
+  start-found (j ∷ h) k since u (inl l) a = record { earlier = in-order (j ∷ h); start = k; since = since; parts = refl; all = one-older (j ∷ h) k since u a; long = inl l }
   start-found (j ∷ h) k since u (inr o) a = rw append-assoc (start-found h j (k ∷ since) (o .0) (o .1) (one-older (j ∷ h) k since u a))
 
   stays-true : (h since : List Tick) → Since h → HighFanOff (in-order h) since → Since (extended h since)
@@ -53,10 +52,10 @@ module _ (now : Tick) where
     where
       back : HighFanOffFor600 (in-order (k ∷ h)) now → Since (k ∷ h)
       back f =
-          let older = extended [] (f .before) in
-          let a : HighFanOff (in-order older) (f .start ∷ f .since) = rw (in-order-extended [] (f .before)) (f .all) in
+          let older = extended [] (f .earlier) in
+          let a : HighFanOff (in-order older) (f .start ∷ f .since) = rw (in-order-extended [] (f .earlier)) (f .all) in
           let o : Since (f .start ∷ older) = (input-law older (f .start) .1 (a .0, a .1), ⊎-elim (λ l. inl l) (λ e. inr (subst (λ (b : List Tick). Since (extended [] b)) (sym e) tt)) (f .long)) in
-          subst Since (history-of-parts (k ∷ h) (f .before) (f .start) (f .since) (f .parts))
+          subst Since (history-of-parts (k ∷ h) (f .earlier) (f .start) (f .since) (f .parts))
           (stays-true (f .start ∷ older) (f .since) o (a .2))
 
 -- ---- the alarm at the accepted tick k after the history h
@@ -65,19 +64,10 @@ alarm-law h k a =
     let held = true-since-law (decimal 600 1) 600 delay-reached false (record { time = k .t; input = high-after (k ∷ h) && not (fan k) }) (samples h) (samples-timed (k ∷ h) a) in
     Iff·trans (alarm-is-three h k) (Iff·and Iff·rfl (Iff·trans held (since-law k h k)))
 
+-- ---- the alarms along a night
+exact-along : (h ks : List Tick) → AllAccepted h → AcceptedInTurn (newest-time h) ks → ExactAlong (in-order h) ks (alarms-along h ks)
+exact-along h [] a f = tt
+exact-along h (k ∷ ks) a f = (record { three = alarm-law h k (f .0, a); else-none = alarm-three-or-none h k }, exact-along (k ∷ h) ks (f .0, a) (f .1))
+
 pub every-night-exactly : EveryNightExactly
-every-night-exactly before k p =
-    let box = box-after (fresh-box Plain) before in
-    let accepted = accepted-ticks Absent before in
-    let h = extended [] accepted in
-    let r = remembers-after (fresh-box Plain) [] before fresh-remembers in
-    let q : T (accepts (newest-time h) k) = subst (λ (last : OptionalTime). T (accepts last k)) (last-accepted-is-newest [] before) p in
-    let list : in-order (k ∷ h) ≡ accepted-ticks Absent (before ++ (k ∷ [])) =
-    ap (λ (l : List Tick). l ++ (k ∷ [])) (in-order-extended [] accepted) ∙ sym (one-more-accepted Absent before k p) in
-    let a : accepted-output box k .«airflow_sensor_alarm» ≡ alarm-at h k = accepted-alarm box h r k in
-    record {
-      output = accepted-output box k;
-      answered = answer-if-accepted box k (rw (same-questions box h r k) q);
-      three = rw a (subst (λ (l : List Tick). (alarm-at h k ≡ pos 3) ↔ ((mode k ≡ pos 1) × HighFanOffFor600 l k)) list (alarm-law h k (q, all-accepted [] accepted tt (accepted-in-turn Absent before))));
-      else-none = rw a (alarm-three-or-none h k);
-    }
+every-night-exactly night = rw (alarms-are (fresh-box Plain) [] night fresh-remembers) (exact-along [] (accepted-ticks Absent night) tt (accepted-in-turn Absent night))

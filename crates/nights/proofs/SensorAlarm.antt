@@ -27,8 +27,7 @@ use Rattle.air_box.specs.declared.Answer.the-variants.{Accepted, Refused}
 use Rattle.air_box.specs.declared.Refusal.{Refusal}
 use Rattle.air_box.specs.declared.Verdict.{Verdict}
 use Rattle.air_box.specs.declared.Verdict.the-variants.{Accept, Refuse}
-use Rattle.nights.specs.Nights.{passes, accepts, accepted-ticks, box-after, answers, sensor-alarms, flow, fan, mode, H}
-use Rattle.nights.proofs.Histories.{extended}
+use Rattle.nights.specs.Nights.{passes, accepts, accepted-ticks, answers, sensor-alarms, flow, fan, mode, H}
 use Rattle.nights.proofs.AcceptedTicks.{decimal-whole, accepted-time, accepted-not-before, newest-time, AllAccepted, by-test}
 
 -- ---- the memories after a history of accepted ticks
@@ -111,10 +110,6 @@ tick-if-refused box k p = go (questions (box .«last_time») k) p
 abbrev pub accepted-output : AirBox → Tick → ControllerOutput
 accepted-output box k = controller-output (box .state) (k .t) (k .input) (delay-on-init (box .start)) .output
 
-pub answer-if-accepted : (box : AirBox) (k : Tick) → T (accepts (box .«last_time») k) → tick box k .answer ≡ Accepted (accepted-output box k)
-unfolding accepted-tick
-answer-if-accepted box k p = rw (tick-if-accepted box k p)
-
 -- ---- the box that has accepted the ticks of the history h, and none besides: what it keeps of them
 pub record Remembers (box : AirBox) (h : List Tick) : Type 0 where
   pub last : box .«last_time» ≡ newest-time h
@@ -136,13 +131,6 @@ module _ (box : AirBox) (h : List Tick) (r : Remembers box h) where
 
   pub same-questions : (k : Tick) → accepts (box .«last_time») k ≡ accepts (newest-time h) k
   same-questions k = rw (r .last)
-
-pub remembers-after : (box : AirBox) (h ks : List Tick) → Remembers box h → Remembers (box-after box ks) (extended h (accepted-ticks (newest-time h) ks))
-remembers-after box h [] r = r
-remembers-after box h (k ∷ ks) r =
-    by-test (accepts (newest-time h) k)
-    (λ e. rw (tick-if-accepted box k (rw (same-questions box h r k, e) tt), e) (remembers-after (accepted-tick box k .state) (k ∷ h) ks (accepted-remembers box h r k)))
-    (λ e. rw (tick-if-refused box k (rw (same-questions box h r k, e) tt) .1, e) (remembers-after box h ks r))
 
 pub alarms-are : (box : AirBox) (h ks : List Tick) → Remembers box h → sensor-alarms (answers box ks) ≡ alarms-along h (accepted-ticks (newest-time h) ks)
 unfolding accepted-tick

@@ -11,12 +11,10 @@ use Rattle.f64_helpers.specs.F64.{_≤ᶠ_}
 use Rattle.f64_helpers.specs.Seconds.{seconds}
 use Rattle.cdl_recurrences.specs.DeadBand.{Related}
 use Rattle.cdl_recurrences.specs.declared.OptionalTime.the-variants.{Absent}
-use Rattle.cooling_only_controller.specs.declared.ControllerOutput.{ControllerOutput}
-use Rattle.air_box.specs.AirBox.{fresh-box, tick}
+use Rattle.air_box.specs.AirBox.{fresh-box}
 use Rattle.air_box.specs.declared.Tick.{Tick}
 use Rattle.air_box.specs.declared.Start.the-variants.{Plain}
-use Rattle.air_box.specs.declared.Answer.the-variants.{Accepted}
-use Rattle.nights.specs.Nights.{accepts, last-accepted, accepted-ticks, box-after, answers, sensor-alarms, flow, fan, mode, FlowHigh, flow-high-stepped, HighFanOff}
+use Rattle.nights.specs.Nights.{accepted-ticks, answers, sensor-alarms, flow, fan, mode, FlowHigh, flow-high-stepped, HighFanOff}
 
 -- ---- the flow-high rule
 
@@ -26,25 +24,35 @@ FlowHighRule = (ks : List Tick) → T (flow-high-stepped false ks) ↔ FlowHigh 
 
 -- ---- every night, exactly
 
--- Flow has been high with the fan off at every accepted tick from `start` up to the last of them, k, and `start` is at least 600 seconds back or the very first accepted one.
+-- Of the accepted ticks, the last of which is k: flow has been high with the fan off at every one from `start` up to k, and `start` is at least 600 seconds back, or the very first.
+-- Accepted times are whole numbers of seconds, so `seconds` of one is the time itself.
 pub record HighFanOffFor600 (accepted : List Tick) (k : Tick) : Type 0 where
-  pub before : List Tick
+  pub earlier : List Tick
   pub start : Tick
   pub since : List Tick
-  pub parts : accepted ≡ before ++ (start ∷ since)
-  pub all : HighFanOff before (start ∷ since)
-  pub long : (seconds (start .t) + 600 ≤ seconds (k .t)) ⊎ (before ≡ [])
+  pub parts : accepted ≡ earlier ++ (start ∷ since)
+  pub all : HighFanOff earlier (start ∷ since)
+  pub long : (seconds (start .t) + 600 ≤ seconds (k .t)) ⊎ (earlier ≡ [])
 
--- At the accepted tick k after the ticks `before`, the box gives outputs. Its airflow sensor alarm is 3 exactly if the mode is 1 and flow has been high with the fan off for long enough; else it is 0.
-pub record SensorAlarmAt (before : List Tick) (k : Tick) : Type 0 where
-  pub output : ControllerOutput
-  pub answered : tick (box-after (fresh-box Plain) before) k .answer ≡ Accepted output
-  pub three : (output .«airflow_sensor_alarm» ≡ pos 3) ↔ ((mode k ≡ pos 1) × HighFanOffFor600 (accepted-ticks Absent (before ++ (k ∷ []))) k)
-  pub else-none : (output .«airflow_sensor_alarm» ≡ pos 3) ⊎ (output .«airflow_sensor_alarm» ≡ pos 0)
+-- The alarm at k is 3 exactly if the mode there is 1 and flow has been high with the fan off for long enough; else it is 0.
+pub record ExactAt (accepted : List Tick) (k : Tick) (alarm : ℤ) : Type 0 where
+  pub three : (alarm ≡ pos 3) ↔ ((mode k ≡ pos 1) × HighFanOffFor600 accepted k)
+  pub else-none : (alarm ≡ pos 3) ⊎ (alarm ≡ pos 0)
 
--- At every accepted tick k of any night, whatever ticks come before it:
+-- There is one alarm for each of the accepted ticks ks, which come after the accepted ticks `earlier`, and each is exact.
+abbrev pub ExactAlong : List Tick → List Tick → List ℤ → Type 0
+ExactAlong earlier [] [] = Unit
+ExactAlong earlier [] (alarm ∷ rest) = ⊥
+ExactAlong earlier (k ∷ ks) [] = ⊥
+ExactAlong earlier (k ∷ ks) (alarm ∷ rest) = ExactAt (earlier ++ (k ∷ [])) k alarm × ExactAlong (earlier ++ (k ∷ [])) ks rest
+
+-- the airflow sensor alarms that a fresh box with a plain start shows along a night
+abbrev pub alarms-of : List Tick → List ℤ
+alarms-of night = sensor-alarms (answers (fresh-box Plain) night)
+
+-- At every accepted tick of every night the alarm is exact.
 abbrev pub EveryNightExactly : Type 0
-EveryNightExactly = (before : List Tick) (k : Tick) → T (accepts (last-accepted Absent before) k) → SensorAlarmAt before k
+EveryNightExactly = (night : List Tick) → ExactAlong [] (accepted-ticks Absent night) (alarms-of night)
 
 -- ---- two nights
 
@@ -55,28 +63,14 @@ pub record NoWeaker (j k : Tick) : Type 0 where
   pub flows : T (flow j ≤ᶠ flow k)
   pub fans : T (fan k) → T (fan j)
 
--- the airflow sensor alarms of a night, one for each accepted tick
-abbrev pub alarms-of : List Tick → List ℤ
-alarms-of night = sensor-alarms (answers (fresh-box Plain) night)
-
 -- For every two nights whose accepted ticks are equally many and so related, first with first: the second shows alarm 3 wherever the first does.
 abbrev pub TwoNights : Type 0
 TwoNights =
     (first second : List Tick) → Related NoWeaker (accepted-ticks Absent first) (accepted-ticks Absent second)
     → Related (λ (a b : ℤ). a ≡ pos 3 → b ≡ pos 3) (alarms-of first) (alarms-of second)
 
--- ---- the night as one list of answers
-
--- The answers along a night: at a tick k after the ticks `before`, the answer is the one that `EveryNightExactly` speaks of, whatever comes after it.
-abbrev pub AnswersInPlace : Type 0
-AnswersInPlace =
-    (before : List Tick) (k : Tick) (after : List Tick)
-    → let box = box-after (fresh-box Plain) before in
-    answers (fresh-box Plain) (before ++ (k ∷ after)) ≡ answers (fresh-box Plain) before ++ (tick box k .answer ∷ answers (tick box k .state) after)
-
 -- ---- demand 3
 pub record Demand3 : Type 0 where
   pub flow-high-rule : FlowHighRule
   pub every-night-exactly : EveryNightExactly
-  pub answers-in-place : AnswersInPlace
   pub two-nights : TwoNights

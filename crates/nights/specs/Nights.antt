@@ -28,21 +28,12 @@ passes (Refuse reason) = false
 abbrev pub accepts : OptionalTime → Tick → Bool
 accepts last k = passes (questions last k)
 
--- The last accepted time after a list that begins after `last`: that of the nearest accepted tick.
-abbrev pub last-accepted : OptionalTime → List Tick → OptionalTime
-last-accepted last [] = last
-last-accepted last (k ∷ ks) = last-accepted (if accepts last k then At (k .t) else last) ks
-
--- the accepted ticks of the list, in order
+-- The accepted ticks of a list that begins after the last accepted time `last`, in order. After an accepted tick the last accepted time is its own; a refused one counts for nothing.
 abbrev pub accepted-ticks : OptionalTime → List Tick → List Tick
 accepted-ticks last [] = []
 accepted-ticks last (k ∷ ks) = if accepts last k then k ∷ accepted-ticks (At (k .t)) ks else accepted-ticks last ks
 
 -- ---- what the box does along the list: each tick gets the box that the last one left
-
-abbrev pub box-after : AirBox → List Tick → AirBox
-box-after box [] = box
-box-after box (k ∷ ks) = box-after (tick box k .state) ks
 
 abbrev pub answers : AirBox → List Tick → List Answer
 answers box [] = []
