@@ -1,4 +1,5 @@
 -- What the stages of cooling_only_controller_conditioning.rs return: the next state beside the output, in that file's order.
+-- A let that has the name of a value of the Rust holds the block's step: its `.output` is the Rust's value, its `.state` the block afterwards.
 use mathlib.Core.Bool.{Bool, true, false, not, _&&_, _||_}
 use lib.IntN.{ℤ, pos}
 use lib.Signed.{leZ}
@@ -10,6 +11,7 @@ use Rattle.cdl_recurrences.specs.CdlRecurrences.{buildings-line, clamp, greater
 use Rattle.cdl_recurrences.specs.declared.OptionalTime.{OptionalTime}
 use Rattle.cdl_recurrences.specs.declared.OptionalTime.the-variants.{Absent, At}
 use Rattle.cooling_only_controller_timing.specs.Timing.{sampler-sample, unit-delay-sample, true-delay, timer-elapsed, step-seconds, fresh-sampler, fresh-unit-delay, fresh-true-delay, fresh-timer}
+use Rattle.cooling_only_controller_timing.specs.declared.TimerStep.{TimerStep}
 use Rattle.cooling_only_controller_timing.specs.declared.TrueDelayState.{TrueDelayState}
 use Rattle.cooling_only_controller_conditioning.specs.declared.LatchState.{LatchState}
 use Rattle.cooling_only_controller_conditioning.specs.declared.LatchStep.{LatchStep}
@@ -83,7 +85,7 @@ latch s input clear =
     let output = not clear && ((input && not (s .«previous_input»)) || s .held) in
     record { state = record { held = output; «previous_input» = input }; output = output }
 
--- ---- Rust `TimeSuppressionState`
+-- ---- Rust `TimeSuppressionState`; G36.Generic.TimeSuppression
 
 abbrev pub fresh-time-suppression : TimeSuppressionState
 fresh-time-suppression =
@@ -120,6 +122,27 @@ setpoint-change s t setpoint-temperature =
 unfoldable pub suppression-window : Float → Float → Float
 suppression-window captured-setpoint captured-zone = smaller (decimal 540 1 ⊗ abs (captured-setpoint ⊖ captured-zone)) (decimal 1800 1)
 
+-- its `passed`: the elapsed time exceeds the window. The comparison is strict.
+abbrev pub window-passed : Float → Float → Float → Bool
+window-passed elapsed captured-setpoint captured-zone = elapsed >ᶠ suppression-window captured-setpoint captured-zone
+
+-- what it stores, in the order of the record's fields
+abbrev pub time-suppression-state : ChangeStep → LatchStep → LatchStep → TimerStep → Bool → Float → Float → TimeSuppressionState
+time-suppression-state change suppression passed-latched elapsed passed captured-setpoint captured-zone =
+    record {
+      «setpoint_sampler» = change .«setpoint_sampler»;
+      «previous_sample» = change .«previous_sample»;
+      «startup_delay» = change .«startup_delay»;
+      «change_detected» = change .«change_detected»;
+      «suppression_latch» = suppression .state;
+      «passed_latch» = passed-latched .state;
+      timer = elapsed .state;
+      «previous_active» = suppression .output;
+      «previous_passed» = passed;
+      «captured_setpoint» = captured-setpoint;
+      «captured_zone» = captured-zone;
+    }
+
 -- Rust `TimeSuppressionState::output`
 unfoldable pub time-suppression : TimeSuppressionState → Float → Float → Float → TimeSuppressionStep
 time-suppression s t setpoint-temperature zone-temperature =
@@ -130,22 +153,10 @@ time-suppression s t setpoint-temperature zone-temperature =
     let captured-setpoint = if rising-active then setpoint-temperature else s .«captured_setpoint» in
     let captured-zone = if rising-active then zone-temperature else s .«captured_zone» in
     let elapsed = timer-elapsed (s .timer) t active in
-    let passed = elapsed .output >ᶠ suppression-window captured-setpoint captured-zone in
+    let passed = window-passed (elapsed .output) captured-setpoint captured-zone in
     let passed-latched = latch (s .«passed_latch») passed rising-active in
     record {
-      state = record {
-        «setpoint_sampler» = change .«setpoint_sampler»;
-        «previous_sample» = change .«previous_sample»;
-        «startup_delay» = change .«startup_delay»;
-        «change_detected» = change .«change_detected»;
-        «suppression_latch» = suppression .state;
-        «passed_latch» = passed-latched .state;
-        timer = elapsed .state;
-        «previous_active» = active;
-        «previous_passed» = passed;
-        «captured_setpoint» = captured-setpoint;
-        «captured_zone» = captured-zone;
-      };
+      state = time-suppression-state change suppression passed-latched elapsed passed captured-setpoint captured-zone;
       output = if active then passed-latched .output else true;
     }
 
@@ -162,13 +173,11 @@ loop-pi s t error trigger =
     let limited = clamp unlimited zero (decimal 1 1) in
     let dt = step-seconds (s .«previous_time») t in
     let anti-windup = (unlimited ⊖ limited) ⊘ (CONTROL_GAIN ⊗ ANTI_WINDUP_NI) in
-    let integrator =
-    if trigger && not (s .«previous_trigger») then neg proportional
-    else s .integrator ⊕ (CONTROL_GAIN ⊘ CONTROL_INTEGRAL_TIME) ⊗ (error ⊖ anti-windup) ⊗ dt
-    in
+    let integrated = s .integrator ⊕ (CONTROL_GAIN ⊘ CONTROL_INTEGRAL_TIME) ⊗ (error ⊖ anti-windup) ⊗ dt in
+    let integrator = if trigger && not (s .«previous_trigger») then neg proportional else integrated in
     record { state = record { integrator = integrator; «previous_time» = At t; «previous_trigger» = trigger }; output = limited }
 
--- ---- Rust `ControlLoopsState`
+-- ---- Rust `ControlLoopsState`; G36.ThermalZones.ControlLoops
 
 abbrev pub fresh-control-loops : ControlLoopsState
 fresh-control-loops =
@@ -216,7 +225,7 @@ control-loops s t cooling-setpoint zone-temperature heating-setpoint =
     let heating = control-loop t zone-temperature heating-setpoint (s .«heating_enable») (s .«heating_pi») (s .«heating_near_zero») (s .«heating_delay») in
     control-loops-step cooling heating
 
--- ---- Rust `SetpointsState`
+-- ---- Rust `SetpointsState`; G36.VentilationZones.ASHRAE62_1.Setpoints
 
 abbrev pub fresh-setpoints : SetpointsState
 fresh-setpoints = record { «cooling_supply» = false }
@@ -250,7 +259,7 @@ setpoints s input =
       };
     }
 
--- ---- Rust `active_airflow`
+-- ---- Rust `active_airflow`; G36.TerminalUnits.CoolingOnly.Subsequences.ActiveAirFlow
 
 unfoldable pub active-airflow : ℤ → Float → ActiveAirflowOutput
 active-airflow operating-mode occupied-minimum =
@@ -259,7 +268,7 @@ active-airflow operating-mode occupied-minimum =
       minimum = if operating-mode ==ᶻ 1 then occupied-minimum else zero;
     }
 
--- ---- Rust `ZoneStatesState`
+-- ---- Rust `ZoneStatesState`; G36.ThermalZones.ZoneStates
 
 abbrev pub fresh-zone-states : ZoneStatesState
 fresh-zone-states = record { «heating_signal» = false; «cooling_signal» = false; «heating_tiebreak» = false }

@@ -1,11 +1,19 @@
 // Conditioning, ventilation and zone state, as in cooling_only_controller_conditioning.rs: latch, time suppression, PI loop, control loops, setpoints, active airflow, zone states.
 ghost use mathlib.Core.Path.{_≡_};
+ghost use Rattle.f64_helpers.specs.F64.{decimal, zero};
+ghost use Rattle.cdl_recurrences.specs.CdlRecurrences.{buildings-line};
 ghost use Rattle.cooling_only_controller_conditioning.specs.Conditioning as Conditioning;
 use cdl_recurrences::OptionalTime;
+use cdl_recurrences::buildings_line;
+use cdl_recurrences::greater_hysteretic;
+use cdl_recurrences::hysteresis;
+use cdl_recurrences::less_hysteretic;
 use cooling_only_controller_timing::SamplerState;
 use cooling_only_controller_timing::TimerState;
+use cooling_only_controller_timing::TimerStep;
 use cooling_only_controller_timing::TrueDelayState;
 use cooling_only_controller_timing::UnitDelayState;
+use f64_helpers::choose;
 
 const SAMPLE_PERIOD: f64 = 120.0;
 
@@ -70,7 +78,7 @@ impl LatchState {
     }
 }
 
-// Time suppression: after a change of the setpoint, requests wait for a window that grows with the change.
+// Time suppression: after a change of the setpoint, requests wait for a window that grows with the distance between setpoint and zone.
 pub struct TimeSuppressionState {
     pub setpoint_sampler: SamplerState,
     pub previous_sample: UnitDelayState,
@@ -131,44 +139,28 @@ impl TimeSuppressionState {
         ensures { λ r. ⌜ r ≡ Conditioning.time-suppression self t «setpoint_temperature» «zone_temperature» ⌝ }
     {
         let change = self.change(t, setpoint_temperature);
+        let detected = change.change_detected;
         let suppression = self.suppression_latch
-            .output(change.change_detected, self.previous_passed);
+            .output(detected, self.previous_passed);
         let active = suppression.output;
         let rising_active = active & !self.previous_active;
-        let captured_setpoint = f64_helpers::choose(
-            rising_active,
-            setpoint_temperature,
-            self.captured_setpoint,
-        );
-        let captured_zone = f64_helpers::choose(
-            rising_active,
-            zone_temperature,
-            self.captured_zone,
-        );
+        let captured_setpoint = choose(rising_active, setpoint_temperature, self.captured_setpoint);
+        let captured_zone = choose(rising_active, zone_temperature, self.captured_zone);
         let window = suppression_window(captured_setpoint, captured_zone);
         let timed = self.timer.elapsed(t, active);
         let passed = timed.output > window;
         let passed_latched = self.passed_latch.output(passed, rising_active);
-        let setpoint_sampler = change.setpoint_sampler;
-        let previous_sample = change.previous_sample;
-        let startup_delay = change.startup_delay;
-        let suppression_latch = suppression.state;
-        let passed_latch = passed_latched.state;
-        let timer = timed.state;
+        let state = time_suppression_state(
+            change,
+            suppression,
+            passed_latched,
+            timed,
+            passed,
+            captured_setpoint,
+            captured_zone,
+        );
         TimeSuppressionStep {
-            state: TimeSuppressionState {
-                setpoint_sampler,
-                previous_sample,
-                startup_delay,
-                change_detected: change.change_detected,
-                suppression_latch,
-                passed_latch,
-                timer,
-                previous_active: active,
-                previous_passed: passed,
-                captured_setpoint,
-                captured_zone,
-            },
+            state,
             output: !active | passed_latched.output,
         }
     }
@@ -183,8 +175,8 @@ impl TimeSuppressionState {
             .sample(t, sampled.output, SAMPLE_PERIOD);
         let startup = self.startup_delay.output(t, true, SAMPLE_PERIOD, true);
         let difference = f64_helpers::abs(sampled.output - prior.output);
-        let change_magnitude = f64_helpers::choose(startup.output, difference, 0.0);
-        let change_detected = cdl_recurrences::greater_hysteretic(
+        let change_magnitude = choose(startup.output, difference, 0.0);
+        let change_detected = greater_hysteretic(
             change_magnitude,
             TEMPERATURE_HYSTERESIS,
             0.5 * TEMPERATURE_HYSTERESIS,
@@ -199,6 +191,39 @@ impl TimeSuppressionState {
             startup_delay,
             change_detected,
         }
+    }
+}
+
+// The memories of time suppression after a tick, put together.
+fn time_suppression_state(
+    change: ChangeStep,
+    suppression: LatchStep,
+    passed_latched: LatchStep,
+    timed: TimerStep,
+    passed: bool,
+    captured_setpoint: f64,
+    captured_zone: f64,
+) -> TimeSuppressionState
+    ensures { λ r. ⌜ r ≡ Conditioning.time-suppression-state change suppression «passed_latched» timed passed «captured_setpoint» «captured_zone» ⌝ }
+{
+    let setpoint_sampler = change.setpoint_sampler;
+    let previous_sample = change.previous_sample;
+    let startup_delay = change.startup_delay;
+    let suppression_latch = suppression.state;
+    let passed_latch = passed_latched.state;
+    let timer = timed.state;
+    TimeSuppressionState {
+        setpoint_sampler,
+        previous_sample,
+        startup_delay,
+        change_detected: change.change_detected,
+        suppression_latch,
+        passed_latch,
+        timer,
+        previous_active: suppression.output,
+        previous_passed: passed,
+        captured_setpoint,
+        captured_zone,
     }
 }
 
@@ -245,7 +270,7 @@ impl LoopPiState {
         let previous_time = self.previous_time;
         let dt = cooling_only_controller_timing::step_seconds(previous_time, t);
         let anti_windup = (unlimited - limited) / (CONTROL_GAIN * ANTI_WINDUP_NI);
-        let integrator = f64_helpers::choose(
+        let integrator = choose(
             trigger & !self.previous_trigger,
             -proportional,
             self.integrator + (CONTROL_GAIN / CONTROL_INTEGRAL_TIME) * (error - anti_windup) * dt,
@@ -304,21 +329,11 @@ fn control_loop(
 ) -> LoopStep
     ensures { λ r. ⌜ r ≡ Conditioning.control-loop t below above «was_enabled» pi «was_near_zero» delay ⌝ }
 {
-    let enable = cdl_recurrences::less_hysteretic(
-        below,
-        above,
-        TEMPERATURE_HYSTERESIS,
-        was_enabled,
-    );
+    let enable = less_hysteretic(below, above, TEMPERATURE_HYSTERESIS, was_enabled);
     let raw = pi.output(t, above - below, enable);
-    let near_zero = cdl_recurrences::less_hysteretic(
-        raw.output,
-        LOOP_THRESHOLD,
-        LOOP_HYSTERESIS,
-        was_near_zero,
-    );
+    let near_zero = less_hysteretic(raw.output, LOOP_THRESHOLD, LOOP_HYSTERESIS, was_near_zero);
     let delayed = delay.output(t, near_zero, CONTROL_DELAY, false);
-    let gate = f64_helpers::choose(delayed.output & !enable, 0.0, 1.0);
+    let gate = choose(delayed.output & !enable, 0.0, 1.0);
     let next_pi = raw.state;
     let next_delay = delayed.state;
     LoopStep {
@@ -448,7 +463,7 @@ impl SetpointsState {
     pub fn output(self, input: SetpointInput) -> SetpointsStep
         ensures { λ r. ⌜ r ≡ Conditioning.setpoints self input ⌝ }
     {
-        let cooling_supply = cdl_recurrences::greater_hysteretic(
+        let cooling_supply = greater_hysteretic(
             input.zone_temperature,
             input.discharge_air_temperature,
             TEMPERATURE_HYSTERESIS,
@@ -456,33 +471,20 @@ impl SetpointsState {
         );
         let occupied_mode = input.operating_mode == 1;
         let override_to_zero = !input.window_status | !occupied_mode;
-        let co2_loop = cdl_recurrences::buildings_line(
-            input.co2_setpoint - 200.0,
-            0.0,
-            input.co2_setpoint,
-            1.0,
-            input.co2_concentration,
-        );
-        let corrected_co2 = f64_helpers::choose(occupied_mode, co2_loop, 0.0);
-        let occupied_minimum = cdl_recurrences::buildings_line(
-            0.0,
+        let co2 = input.co2_setpoint;
+        let co2_loop = buildings_line(co2 - 200.0, 0.0, co2, 1.0, input.co2_concentration);
+        let corrected_co2 = choose(occupied_mode, co2_loop, 0.0);
+        let occupied_minimum = unit_line(
             DESIGN_MINIMUM_FLOW,
-            1.0,
             DESIGN_COOLING_MAXIMUM_FLOW,
             corrected_co2,
         );
-        let population = cdl_recurrences::buildings_line(
-            0.0,
-            0.0,
-            1.0,
-            POPULATION_BREATHING_FLOW,
-            corrected_co2,
-        );
+        let population = unit_line(0.0, POPULATION_BREATHING_FLOW, corrected_co2);
         let not_occupied = !input.occupancy_status;
         let population = unless(override_to_zero, unless(not_occupied, population));
         let area = unless(override_to_zero, unless(not_occupied, AREA_BREATHING_FLOW));
         let occupied_minimum = unless(override_to_zero, unless(not_occupied, occupied_minimum));
-        let distribution_effectiveness = f64_helpers::choose(
+        let distribution_effectiveness = choose(
             cooling_supply,
             COOLING_DISTRIBUTION_EFFECTIVENESS,
             HEATING_DISTRIBUTION_EFFECTIVENESS,
@@ -497,6 +499,13 @@ impl SetpointsState {
             },
         }
     }
+}
+
+// The line from (0, f1) to (1, f2) at u.
+fn unit_line(f1: f64, f2: f64, u: f64) -> f64
+    ensures { λ r. ⌜ r ≡ buildings-line zero f1 (decimal 1 1) f2 u ⌝ }
+{
+    buildings_line(0.0, f1, 1.0, f2, u)
 }
 
 // `if off { 0.0 } else { flow }`
@@ -516,8 +525,8 @@ pub fn active_airflow(operating_mode: i64, occupied_minimum: f64) -> ActiveAirfl
     ensures { λ r. ⌜ r ≡ Conditioning.active-airflow «operating_mode» «occupied_minimum» ⌝ }
 {
     let conditioned = (operating_mode >= 1) & (operating_mode <= 3);
-    let cooling_maximum = f64_helpers::choose(conditioned, DESIGN_COOLING_MAXIMUM_FLOW, 0.0);
-    let minimum = f64_helpers::choose(operating_mode == 1, occupied_minimum, 0.0);
+    let cooling_maximum = choose(conditioned, DESIGN_COOLING_MAXIMUM_FLOW, 0.0);
+    let minimum = choose(operating_mode == 1, occupied_minimum, 0.0);
     ActiveAirflowOutput {
         cooling_maximum,
         minimum,
@@ -550,14 +559,9 @@ impl ZoneStatesState {
     pub fn output(self, heating: f64, cooling: f64) -> ZoneStatesStep
         ensures { λ r. ⌜ r ≡ Conditioning.zone-states self heating cooling ⌝ }
     {
-        let heating_signal = cdl_recurrences::hysteresis(heating, 0.01, 0.05, self.heating_signal);
-        let cooling_signal = cdl_recurrences::hysteresis(cooling, 0.01, 0.05, self.cooling_signal);
-        let heating_tiebreak = cdl_recurrences::hysteresis(
-            heating - cooling,
-            -0.01,
-            0.01,
-            self.heating_tiebreak,
-        );
+        let heating_signal = hysteresis(heating, 0.01, 0.05, self.heating_signal);
+        let cooling_signal = hysteresis(cooling, 0.01, 0.05, self.cooling_signal);
+        let heating_tiebreak = hysteresis(heating - cooling, -0.01, 0.01, self.heating_tiebreak);
         let is_heating = heating_signal & heating_tiebreak;
         let output = zone_state(is_heating, !is_heating & cooling_signal);
         ZoneStatesStep {
