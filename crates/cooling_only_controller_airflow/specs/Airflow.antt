@@ -1,4 +1,5 @@
 -- What the stages of cooling_only_controller_airflow.rs return: the next state beside the output, in that file's order.
+-- A let that has the name of a value of the Rust holds the block's step: its `.output` is the Rust's value, its `.state` the block afterwards.
 -- `delay-on-init` is false in the Rust; a quiet start runs the nine true delays of system requests and alarms with true.
 use mathlib.Core.Bool.{Bool, true, false, not, _&&_}
 use lib.IntN.{ℤ, pos}
@@ -43,7 +44,7 @@ DAMPER_POSITION_HYSTERESIS = decimal 1 100
 abbrev pub SAMPLE_PERIOD : Float
 SAMPLE_PERIOD = decimal 120 1
 
--- ---- Rust `DamperState`
+-- ---- Rust `DamperState`; G36.TerminalUnits.CoolingOnly.Subsequences.Dampers, with CDL.Reals.PIDWithReset as a PI
 
 abbrev pub fresh-damper : DamperState
 fresh-damper = record { «supply_warm» = false; integrator = zero; «previous_time» = Absent; «previous_fan» = false }
@@ -64,8 +65,8 @@ damper-override index pid-output =
     else pid-output
 
 -- The `airflow_setpoint` of Rust `DamperState::output`
-unfoldable pub airflow-setpoint : DamperInput → Bool → Float
-airflow-setpoint input supply-warm =
+unfoldable pub chosen-airflow-setpoint : DamperInput → Bool → Float
+chosen-airflow-setpoint input supply-warm =
     let mapped = buildings-line zero (input .«active_minimum_flow») (decimal 1 1) (input .«active_cooling_maximum_flow») (input .«cooling_loop») in
     let active = if supply-warm then input .«active_minimum_flow» else mapped in
     let base = if input .«zone_state» ==ᶻ 3 then active else input .«active_minimum_flow» in
@@ -75,7 +76,7 @@ airflow-setpoint input supply-warm =
 unfoldable pub damper : DamperState → Float → DamperInput → DamperStep
 damper s t input =
     let supply-warm = greater-hysteretic (input .«supply_air_temperature») (input .«zone_temperature») TEMPERATURE_HYSTERESIS (s .«supply_warm») in
-    let airflow-setpoint = airflow-setpoint input supply-warm in
+    let airflow-setpoint = chosen-airflow-setpoint input supply-warm in
     let normalized-setpoint = airflow-setpoint ⊘ DESIGN_COOLING_MAXIMUM_FLOW in
     let normalized-measurement = input .«discharge_airflow» ⊘ DESIGN_COOLING_MAXIMUM_FLOW in
     let error = normalized-setpoint ⊖ normalized-measurement in
@@ -84,16 +85,14 @@ damper s t input =
     let pid-output = clamp unlimited zero (decimal 1 1) in
     let dt = step-seconds (s .«previous_time») t in
     let anti-windup = (unlimited ⊖ pid-output) ⊘ (decimal 5 10 ⊗ decimal 9 10) in
-    let integrator =
-    if input .«supply_fan_status» && not (s .«previous_fan») then decimal 1 100 ⊖ proportional
-    else s .integrator ⊕ (decimal 5 10 ⊘ decimal 300 1) ⊗ (error ⊖ anti-windup) ⊗ dt
-    in
+    let integrated = s .integrator ⊕ (decimal 5 10 ⊘ decimal 300 1) ⊗ (error ⊖ anti-windup) ⊗ dt in
+    let integrator = if input .«supply_fan_status» && not (s .«previous_fan») then decimal 1 100 ⊖ proportional else integrated in
     record {
       state = record { «supply_warm» = supply-warm; integrator = integrator; «previous_time» = At t; «previous_fan» = input .«supply_fan_status» };
       output = record { «airflow_setpoint» = airflow-setpoint; «damper_command» = damper-override (input .«damper_override_index») pid-output };
     }
 
--- ---- Rust `SystemRequestsState`
+-- ---- Rust `SystemRequestsState`; G36.TerminalUnits.CoolingOnly.Subsequences.SystemRequests
 
 abbrev pub fresh-system-requests : SystemRequestsState
 fresh-system-requests =
@@ -138,6 +137,10 @@ temperature-request s t input delay-on-init =
       temperature = request-level (input .«after_suppression» && hot-three-held .output) (input .«after_suppression» && hot-two-held .output) cooling-high;
     }
 
+-- Whether the flow falls short of a share of the setpoint: `starved_half`, `starved_seventy` and `low_seventy` of the Rust
+abbrev pub starved : Float → Float → Float → Bool → Bool
+starved share setpoint discharge previous = greater-hysteretic (share ⊗ setpoint) discharge FLOW_HYSTERESIS previous
+
 -- Rust `SystemRequestsState::output`, from there on
 unfoldable pub pressure-request : SystemRequestsState → Float → SystemRequestInput → Bool → PressureRequestStep
 pressure-request s t input delay-on-init =
@@ -147,8 +150,8 @@ pressure-request s t input delay-on-init =
     let setpoint-on = hysteresis (sampled-setpoint .output) (decimal 5 1000) (decimal 1 100) (s .«setpoint_on») in
     let damper-high = hysteresis (sampled-damper .output) (decimal 94 100) (decimal 95 100) (s .«damper_high») in
     let damper-held = true-delay (s .«damper_delay») t damper-high (decimal 60 1) delay-on-init in
-    let starved-half = greater-hysteretic (decimal 5 10 ⊗ sampled-setpoint .output) (sampled-discharge .output) FLOW_HYSTERESIS (s .«starved_half») in
-    let starved-seventy = greater-hysteretic (decimal 7 10 ⊗ sampled-setpoint .output) (sampled-discharge .output) FLOW_HYSTERESIS (s .«starved_seventy») in
+    let starved-half = starved (decimal 5 10) (sampled-setpoint .output) (sampled-discharge .output) (s .«starved_half») in
+    let starved-seventy = starved (decimal 7 10) (sampled-setpoint .output) (sampled-discharge .output) (s .«starved_seventy») in
     let gate = setpoint-on && damper-held .output in
     record {
       «setpoint_sampler» = sampled-setpoint .state;
@@ -188,7 +191,7 @@ system-requests-step temperature pressure =
 unfoldable pub system-requests : SystemRequestsState → Float → SystemRequestInput → Bool → SystemRequestsStep
 system-requests s t input delay-on-init = system-requests-step (temperature-request s t input delay-on-init) (pressure-request s t input delay-on-init)
 
--- ---- Rust `AlarmsState`
+-- ---- Rust `AlarmsState`; G36.TerminalUnits.CoolingOnly.Subsequences.Alarms
 
 abbrev pub fresh-alarms : AlarmsState
 fresh-alarms =
@@ -206,8 +209,13 @@ fresh-alarms =
       «leak_delay» = fresh-true-delay;
     }
 
-abbrev pub low-airflow-level : Bool → Bool → ℤ
-low-airflow-level level-two level-three = if level-two then pos 2 else if level-three then pos 3 else pos 0
+-- `low_airflow`, with the Rust's `level_two` and `level_three`
+abbrev pub low-airflow-level : Bool → Bool → Bool → ℤ → ℤ
+low-airflow-level low-half-held low-seventy-held setpoint-on operation-mode =
+    let occupied = operation-mode ==ᶻ 1 in
+    let level-two = low-half-held && setpoint-on && occupied in
+    let level-three = low-seventy-held && setpoint-on && occupied in
+    if level-two then pos 2 else if level-three then pos 3 else pos 0
 
 -- Rust's `if on { level } else { 0 }`
 abbrev pub alarm-level : Bool → ℤ → ℤ
@@ -216,16 +224,13 @@ alarm-level on level = if on then level else pos 0
 -- Rust `AlarmsState::output`, down to `low_airflow`. Both low-flow memories are stored before the fan's arming enters.
 unfoldable pub low-airflow-alarm : AlarmsState → Float → AlarmInput → Bool → LowAirflowStep
 low-airflow-alarm s t input delay-on-init =
-    let occupied = input .«operation_mode» ==ᶻ 1 in
     let fan-armed = true-delay (s .«fan_armed») t (input .«supply_fan_status») (decimal 1800 1) delay-on-init in
     let setpoint-nonzero = hysteresis (input .«active_airflow_setpoint») (decimal 5 1000) (decimal 1 100) (s .«setpoint_nonzero») in
     let setpoint-on = true-delay (s .«setpoint_on») t setpoint-nonzero (decimal 300 1) delay-on-init in
     let low-half = less-hysteretic (input .«discharge_airflow») (decimal 5 10 ⊗ input .«active_airflow_setpoint») FLOW_HYSTERESIS (s .«low_half») in
-    let low-seventy = greater-hysteretic (decimal 7 10 ⊗ input .«active_airflow_setpoint») (input .«discharge_airflow») FLOW_HYSTERESIS (s .«low_seventy») in
+    let low-seventy = starved (decimal 7 10) (input .«active_airflow_setpoint») (input .«discharge_airflow») (s .«low_seventy») in
     let low-half-held = true-delay (s .«low_half_delay») t (low-half && fan-armed .output) (decimal 300 1) delay-on-init in
     let low-seventy-held = true-delay (s .«low_seventy_delay») t (low-seventy && fan-armed .output) (decimal 300 1) delay-on-init in
-    let level-two = low-half-held .output && setpoint-on .output && occupied in
-    let level-three = low-seventy-held .output && setpoint-on .output && occupied in
     record {
       «fan_armed» = fan-armed .state;
       «setpoint_nonzero» = setpoint-nonzero;
@@ -234,7 +239,7 @@ low-airflow-alarm s t input delay-on-init =
       «low_seventy» = low-seventy;
       «low_half_delay» = low-half-held .state;
       «low_seventy_delay» = low-seventy-held .state;
-      «low_airflow» = low-airflow-level level-two level-three;
+      «low_airflow» = low-airflow-level (low-half-held .output) (low-seventy-held .output) (setpoint-on .output) (input .«operation_mode»);
     }
 
 -- Rust `AlarmsState::output`, from there on

@@ -105,7 +105,7 @@ impl DamperState {
 
 // The setpoint that the cooling loop asks for in the cooling state with cool supply air, else the minimum; an override comes first.
 fn airflow_setpoint(input: DamperInput, supply_warm: bool) -> f64
-    ensures { λ r. ⌜ r ≡ Airflow.airflow-setpoint input «supply_warm» ⌝ }
+    ensures { λ r. ⌜ r ≡ Airflow.chosen-airflow-setpoint input «supply_warm» ⌝ }
 {
     let mapped = cdl_recurrences::buildings_line(
         0.0,
@@ -300,20 +300,8 @@ impl SystemRequestsState {
         let damper_high = hysteresis(damper.output, 0.94, 0.95, self.damper_high);
         let held = self.damper_delay
             .output(t, damper_high, 60.0, delay_on_init);
-        let half = 0.5 * setpoint.output;
-        let starved_half = greater_hysteretic(
-            half,
-            discharge.output,
-            FLOW_HYSTERESIS,
-            self.starved_half,
-        );
-        let seventy = 0.7 * setpoint.output;
-        let starved_seventy = greater_hysteretic(
-            seventy,
-            discharge.output,
-            FLOW_HYSTERESIS,
-            self.starved_seventy,
-        );
+        let starved_half = starved(0.5, setpoint.output, discharge.output, self.starved_half);
+        let starved_seventy = starved(0.7, setpoint.output, discharge.output, self.starved_seventy);
         let gate = setpoint_on & held.output;
         let pressure = request_level(gate & starved_half, gate & starved_seventy, damper_high);
         let setpoint_sampler = setpoint.state;
@@ -332,6 +320,13 @@ impl SystemRequestsState {
             pressure,
         }
     }
+}
+
+// Whether the flow falls short of a share of the setpoint.
+fn starved(share: f64, setpoint: f64, discharge: f64, previous: bool) -> bool
+    ensures { λ r. ⌜ r ≡ Airflow.starved share setpoint discharge previous ⌝ }
+{
+    greater_hysteretic(share * setpoint, discharge, FLOW_HYSTERESIS, previous)
 }
 
 // The two requests' memories and levels, put together.
@@ -475,19 +470,13 @@ impl AlarmsState {
     {
         let flow = input.discharge_airflow;
         let setpoint = input.active_airflow_setpoint;
-        let occupied = input.operation_mode == 1;
         let armed = self.fan_armed
             .output(t, input.supply_fan_status, 1800.0, delay_on_init);
         let setpoint_nonzero = hysteresis(setpoint, 0.005, 0.01, self.setpoint_nonzero);
         let on = self.setpoint_on
             .output(t, setpoint_nonzero, 300.0, delay_on_init);
         let low_half = less_hysteretic(flow, 0.5 * setpoint, FLOW_HYSTERESIS, self.low_half);
-        let low_seventy = greater_hysteretic(
-            0.7 * setpoint,
-            flow,
-            FLOW_HYSTERESIS,
-            self.low_seventy,
-        );
+        let low_seventy = starved(0.7, setpoint, flow, self.low_seventy);
         let half_low = low_half & armed.output;
         let half_held = self.low_half_delay
             .output(t, half_low, 300.0, delay_on_init);
@@ -495,8 +484,10 @@ impl AlarmsState {
         let seventy_held = self.low_seventy_delay
             .output(t, seventy_low, 300.0, delay_on_init);
         let low_airflow = low_airflow_level(
-            half_held.output & on.output & occupied,
-            seventy_held.output & on.output & occupied,
+            half_held.output,
+            seventy_held.output,
+            on.output,
+            input.operation_mode,
         );
         let fan_armed = armed.state;
         let setpoint_on = on.state;
@@ -583,12 +574,19 @@ fn alarms_step(low: LowAirflowStep, sensor_leak: SensorLeakStep) -> AlarmsStep
     }
 }
 
-fn low_airflow_level(level_two: bool, level_three: bool) -> i64
-    ensures { λ r. ⌜ r ≡ Airflow.low-airflow-level «level_two» «level_three» ⌝ }
+// Level 2 comes before level 3.
+fn low_airflow_level(
+    half_held: bool,
+    seventy_held: bool,
+    setpoint_on: bool,
+    operation_mode: i64,
+) -> i64
+    ensures { λ r. ⌜ r ≡ Airflow.low-airflow-level «half_held» «seventy_held» «setpoint_on» «operation_mode» ⌝ }
 {
-    if level_two {
+    let occupied = operation_mode == 1;
+    if half_held & setpoint_on & occupied {
         2
-    } else if level_three {
+    } else if seventy_held & setpoint_on & occupied {
         3
     } else {
         0

@@ -1,8 +1,6 @@
 -- `cooling_only_controller_airflow::AlarmsState::low_airflow` meets its contract. Assumes nothing.
 use lib.Ieee.{ofBits, round}
 use mir.Facts.{toZ-ofZ}
-use Rattle.f64_helpers.proofs.Integers.{equals-literal}
-use lib.Dec.{lit<}
 use Rattle.cooling_only_controller_airflow.specs.Airflow.{low-airflow-alarm}
 use borrow.Author.Needs.{needs}
 use Rattle.cooling_only_controller_airflow.proofs.AlarmsState.low_airflow.Statement.{
@@ -12,7 +10,7 @@ use Rattle.cooling_only_controller_airflow.proofs.AlarmsState.low_airfl
 
 returns : tie.Need-returns
 unfolding low-airflow-alarm ofBits round
-returns c = rw (toZ-ofZ (record { sfits = c .before .before .before .before .low-airflow-level .ok }), c .before .before .before .before .low-airflow-level .ensures, c .before .before .before .before .before .before .before .before .before .output4 .ensures, c .before .before .before .before .before .before .before .before .before .before .before .output3 .ensures, c .before .before .before .before .before .before .before .before .before .before .before .before .before .greater-hysteretic .ensures, c .before .before .before .before .before .before .before .before .before .before .before .before .before .before .less-hysteretic .ensures, c .before .before .before .before .before .before .before .before .before .before .before .before .before .before .before .output2 .ensures, c .before .before .before .before .before .before .before .before .before .before .before .before .before .before .before .before .hysteresis .ensures, c .before .before .before .before .before .before .before .before .before .before .before .before .before .before .before .before .before .output .ensures, equals-literal (c .before .before .before .before .before .before .before .before .before .before .before .before .before .before .before .before .before .before .before .before .args .input .«operation_mode») 1 (record { sfits = c .before .before .before .before .before .before .before .before .before .before .before .before .before .before .before .before .before .before .struct-told .given .1 .1 .1 .0 .1 }) (lit< tt))
+returns c = rw (toZ-ofZ (record { sfits = c .before .before .before .before .low-airflow-level .ok }), c .before .before .before .before .low-airflow-level .ensures, c .before .before .before .before .before .before .output4 .ensures, c .before .before .before .before .before .before .before .before .output3 .ensures, c .before .before .before .before .before .before .before .before .before .before .starved .ensures, c .before .before .before .before .before .before .before .before .before .before .before .less-hysteretic .ensures, c .before .before .before .before .before .before .before .before .before .before .before .before .output2 .ensures, c .before .before .before .before .before .before .before .before .before .before .before .before .before .hysteresis .ensures, c .before .before .before .before .before .before .before .before .before .before .before .before .before .before .output .ensures, toZ-ofZ (record { sfits = c .before .before .before .before .before .struct-told .given .1 .1 .1 .0 .1 }))
 
 pub low-airflow-spec : {M : Type 1} → statement M
 low-airflow-spec =

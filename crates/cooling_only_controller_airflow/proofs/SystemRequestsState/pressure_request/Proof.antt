@@ -10,7 +10,7 @@ use Rattle.cooling_only_controller_airflow.proofs.SystemRequestsState.p
 
 returns : tie.Need-returns
 unfolding pressure-request ofBits round
-returns c = rw (toZ-ofZ (record { sfits = c .before .before .before .before .request-level .ok }), c .before .before .before .before .request-level .ensures, c .before .before .before .before .before .before .greater-hysteretic2 .ensures, c .before .before .before .before .before .before .before .before .greater-hysteretic .ensures, c .before .before .before .before .before .before .before .before .before .before .output .ensures, c .before .before .before .before .before .before .before .before .before .before .before .hysteresis2 .ensures, c .before .before .before .before .before .before .before .before .before .before .before .before .hysteresis .ensures, c .before .before .before .before .before .before .before .before .before .before .before .before .before .sample3 .ensures, c .before .before .before .before .before .before .before .before .before .before .before .before .before .before .sample2 .ensures, c .before .before .before .before .before .before .before .before .before .before .before .before .before .before .before .sample .ensures)
+returns c = rw (toZ-ofZ (record { sfits = c .before .before .before .before .request-level .ok }), c .before .before .before .before .request-level .ensures, c .before .before .before .before .before .before .starved2 .ensures, c .before .before .before .before .before .before .before .starved .ensures, c .before .before .before .before .before .before .before .before .output .ensures, c .before .before .before .before .before .before .before .before .before .hysteresis2 .ensures, c .before .before .before .before .before .before .before .before .before .before .hysteresis .ensures, c .before .before .before .before .before .before .before .before .before .before .before .sample3 .ensures, c .before .before .before .before .before .before .before .before .before .before .before .before .sample2 .ensures, c .before .before .before .before .before .before .before .before .before .before .before .before .before .sample .ensures)
 
 pub pressure-request-spec : {M : Type 1} → statement M
 pressure-request-spec =
