@@ -3,13 +3,20 @@ use mathlib.Core.Bool.{Bool}
 use lib.IntN.{ℤ}
 use lib.Ieee.{Float}
 use Rattle.cooling_only_controller_conditioning.specs.Conditioning.{time-suppression, control-loops, setpoints, active-airflow, zone-states, fresh-time-suppression, fresh-control-loops, fresh-setpoints, fresh-zone-states}
+use Rattle.cooling_only_controller_conditioning.specs.declared.TimeSuppressionStep.{TimeSuppressionStep}
 use Rattle.cooling_only_controller_conditioning.specs.declared.ControlLoopOutput.{ControlLoopOutput}
+use Rattle.cooling_only_controller_conditioning.specs.declared.ControlLoopsStep.{ControlLoopsStep}
+use Rattle.cooling_only_controller_conditioning.specs.declared.SetpointsStep.{SetpointsStep}
+use Rattle.cooling_only_controller_conditioning.specs.declared.ZoneStatesStep.{ZoneStatesStep}
 use Rattle.cooling_only_controller_conditioning.specs.declared.SetpointInput.{SetpointInput}
 use Rattle.cooling_only_controller_conditioning.specs.declared.SetpointOutput.{SetpointOutput}
 use Rattle.cooling_only_controller_conditioning.specs.declared.ActiveAirflowOutput.{ActiveAirflowOutput}
 use Rattle.cooling_only_controller_airflow.specs.Airflow.{damper, system-requests, alarms, fresh-damper, fresh-system-requests, fresh-alarms}
 use Rattle.cooling_only_controller_airflow.specs.declared.DamperInput.{DamperInput}
 use Rattle.cooling_only_controller_airflow.specs.declared.DamperOutput.{DamperOutput}
+use Rattle.cooling_only_controller_airflow.specs.declared.DamperStep.{DamperStep}
+use Rattle.cooling_only_controller_airflow.specs.declared.SystemRequestsStep.{SystemRequestsStep}
+use Rattle.cooling_only_controller_airflow.specs.declared.AlarmsStep.{AlarmsStep}
 use Rattle.cooling_only_controller_airflow.specs.declared.SystemRequestInput.{SystemRequestInput}
 use Rattle.cooling_only_controller_airflow.specs.declared.SystemRequestOutput.{SystemRequestOutput}
 use Rattle.cooling_only_controller_airflow.specs.declared.AlarmInput.{AlarmInput}
@@ -99,17 +106,9 @@ outputs damper setpoints requests alarms =
       «leaking_damper_alarm» = alarms .«leaking_damper»;
     }
 
--- Rust `ControllerState::output`. `delay-on-init` is that of the nine true delays of system requests and alarms; in the Rust it is false.
-unfoldable pub controller-output : ControllerState → Float → ControllerInput → Bool → ControllerStep
-controller-output s t input delay-on-init =
-    let after-suppression = time-suppression (s .«time_suppression») t (input .«cooling_setpoint») (input .«zone_temperature») in
-    let loops = control-loops (s .«control_loops») t (input .«cooling_setpoint») (input .«zone_temperature») (input .«heating_setpoint») in
-    let setpoints = setpoints (s .setpoints) (setpoint-input input) in
-    let active = active-airflow (input .«operating_mode») (setpoints .output .«occupied_minimum_flow») in
-    let zone-state = zone-states (s .«zone_states») (loops .output .heating) (loops .output .cooling) in
-    let damper = damper (s .dampers) t (damper-input input (loops .output) active (zone-state .output)) in
-    let requests = system-requests (s .«system_requests») t (request-input input (after-suppression .output) (loops .output) (damper .output)) delay-on-init in
-    let alarms = alarms (s .alarms) t (alarm-input input (damper .output)) delay-on-init in
+-- the next state and the ten outputs, from the stages' steps
+abbrev pub controller-step : TimeSuppressionStep → ControlLoopsStep → SetpointsStep → ZoneStatesStep → DamperStep → SystemRequestsStep → AlarmsStep → ControllerStep
+controller-step after-suppression loops setpoints zone-state damper requests alarms =
     record {
       state = record {
         «time_suppression» = after-suppression .state;
@@ -122,3 +121,17 @@ controller-output s t input delay-on-init =
       };
       output = outputs (damper .output) (setpoints .output) (requests .output) (alarms .output);
     }
+
+-- Rust `ControllerState::output`; G36.TerminalUnits.CoolingOnly.Controller. `delay-on-init` is that of the nine true delays of system requests and alarms; in the Rust it is false.
+-- Each let holds a stage's step: its `.output` is the Rust's value of that name, its `.state` the stage afterwards.
+unfoldable pub controller-output : ControllerState → Float → ControllerInput → Bool → ControllerStep
+controller-output s t input delay-on-init =
+    let after-suppression = time-suppression (s .«time_suppression») t (input .«cooling_setpoint») (input .«zone_temperature») in
+    let loops = control-loops (s .«control_loops») t (input .«cooling_setpoint») (input .«zone_temperature») (input .«heating_setpoint») in
+    let setpoints-step = setpoints (s .setpoints) (setpoint-input input) in
+    let active = active-airflow (input .«operating_mode») (setpoints-step .output .«occupied_minimum_flow») in
+    let zone-state = zone-states (s .«zone_states») (loops .output .heating) (loops .output .cooling) in
+    let damper-step = damper (s .dampers) t (damper-input input (loops .output) active (zone-state .output)) in
+    let requests = system-requests (s .«system_requests») t (request-input input (after-suppression .output) (loops .output) (damper-step .output)) delay-on-init in
+    let alarms-step = alarms (s .alarms) t (alarm-input input (damper-step .output)) delay-on-init in
+    controller-step after-suppression loops setpoints-step zone-state damper-step requests alarms-step

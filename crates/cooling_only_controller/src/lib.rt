@@ -4,20 +4,27 @@ ghost use Rattle.cooling_only_controller.specs.Controller as Controller;
 use cooling_only_controller_airflow::AlarmInput;
 use cooling_only_controller_airflow::AlarmOutput;
 use cooling_only_controller_airflow::AlarmsState;
+use cooling_only_controller_airflow::AlarmsStep;
 use cooling_only_controller_airflow::DamperInput;
 use cooling_only_controller_airflow::DamperOutput;
 use cooling_only_controller_airflow::DamperState;
+use cooling_only_controller_airflow::DamperStep;
 use cooling_only_controller_airflow::SystemRequestInput;
 use cooling_only_controller_airflow::SystemRequestOutput;
 use cooling_only_controller_airflow::SystemRequestsState;
+use cooling_only_controller_airflow::SystemRequestsStep;
 use cooling_only_controller_conditioning::ActiveAirflowOutput;
 use cooling_only_controller_conditioning::ControlLoopOutput;
 use cooling_only_controller_conditioning::ControlLoopsState;
+use cooling_only_controller_conditioning::ControlLoopsStep;
 use cooling_only_controller_conditioning::SetpointInput;
 use cooling_only_controller_conditioning::SetpointOutput;
 use cooling_only_controller_conditioning::SetpointsState;
+use cooling_only_controller_conditioning::SetpointsStep;
 use cooling_only_controller_conditioning::TimeSuppressionState;
+use cooling_only_controller_conditioning::TimeSuppressionStep;
 use cooling_only_controller_conditioning::ZoneStatesState;
+use cooling_only_controller_conditioning::ZoneStatesStep;
 
 pub struct ControllerInput {
     pub zone_temperature: f64,
@@ -114,28 +121,45 @@ impl ControllerState {
         let requests = self.system_requests.output(t, wanted, delay_on_init);
         let alarms = self.alarms
             .output(t, alarm_input(input, air), delay_on_init);
-        let time_suppression = suppressed.state;
-        let control_loops = loops.state;
-        let setpoints_state = setpoints.state;
-        let zone_states = zone.state;
-        let dampers = damper.state;
-        let system_requests = requests.state;
-        let alarms_state = alarms.state;
-        let levels = requests.output;
-        let alarm = alarms.output;
-        let output = controller_output(air, flows, levels, alarm);
-        ControllerStep {
-            state: ControllerState {
-                time_suppression,
-                control_loops,
-                setpoints: setpoints_state,
-                zone_states,
-                dampers,
-                system_requests,
-                alarms: alarms_state,
-            },
-            output,
-        }
+        controller_step(suppressed, loops, setpoints, zone, damper, requests, alarms)
+    }
+}
+
+// The next state and the ten outputs, put together from the stages' steps.
+fn controller_step(
+    suppressed: TimeSuppressionStep,
+    loops: ControlLoopsStep,
+    setpoints: SetpointsStep,
+    zone: ZoneStatesStep,
+    damper: DamperStep,
+    requests: SystemRequestsStep,
+    alarms: AlarmsStep,
+) -> ControllerStep
+    ensures { λ r. ⌜ r ≡ Controller.controller-step suppressed loops setpoints zone damper requests alarms ⌝ }
+{
+    let time_suppression = suppressed.state;
+    let control_loops = loops.state;
+    let setpoints_state = setpoints.state;
+    let zone_states = zone.state;
+    let dampers = damper.state;
+    let system_requests = requests.state;
+    let alarms_state = alarms.state;
+    let air = damper.output;
+    let flows = setpoints.output;
+    let levels = requests.output;
+    let alarm = alarms.output;
+    let output = controller_output(air, flows, levels, alarm);
+    ControllerStep {
+        state: ControllerState {
+            time_suppression,
+            control_loops,
+            setpoints: setpoints_state,
+            zone_states,
+            dampers,
+            system_requests,
+            alarms: alarms_state,
+        },
+        output,
     }
 }
 

@@ -1,5 +1,5 @@
 -- `cooling_only_controller::ControllerState::output` meets its contract. Assumes nothing.
-use mathlib.Core.Path.{_≡_}
+use mathlib.Core.Path.{_≡_, _∙_}
 use mathlib.Core.Bool.{Bool}
 use lib.Ieee.{Float}
 use mir.Syntax.{w64}
@@ -19,10 +19,8 @@ use Rattle.cooling_only_controller_airflow.specs.declared.SystemRequestsStep.{S
 use Rattle.cooling_only_controller_airflow.specs.declared.AlarmInput.{AlarmInput}
 use Rattle.cooling_only_controller_airflow.specs.declared.AlarmsStep.{AlarmsStep}
 use Rattle.cooling_only_controller.specs.declared.ControllerInput.{ControllerInput}
-use Rattle.cooling_only_controller.specs.declared.ControllerOutput.{ControllerOutput}
 use Rattle.cooling_only_controller.specs.declared.ControllerState.{ControllerState}
-use Rattle.cooling_only_controller.specs.declared.ControllerStep.{ControllerStep}
-use Rattle.cooling_only_controller.specs.Controller.{controller-output, setpoint-input, damper-input, request-input, alarm-input, outputs}
+use Rattle.cooling_only_controller.specs.Controller.{controller-output, setpoint-input, damper-input, request-input, alarm-input, controller-step}
 use borrow.Author.Needs.{needs}
 use Rattle.cooling_only_controller.proofs.ControllerState.output.Statement.{statement}
 use Rattle.cooling_only_controller.proofs.ControllerState.output.Tie as tie
@@ -41,7 +39,6 @@ whole-from : (s : ControllerState) (t : Float) (input : ControllerInput) (delay-
     (requests : SystemRequestsStep)
     (wanted-alarms : AlarmInput)
     (alarms-now : AlarmsStep)
-    (out : ControllerOutput)
     → after ≡ time-suppression (s .«time_suppression») t (input .«cooling_setpoint») (input .«zone_temperature»)
     → loops ≡ control-loops (s .«control_loops») t (input .«cooling_setpoint») (input .«zone_temperature») (input .«heating_setpoint»)
     → wanted-setpoints ≡ setpoint-input input
@@ -54,56 +51,41 @@ whole-from : (s : ControllerState) (t : Float) (input : ControllerInput) (delay-
     → requests ≡ system-requests (s .«system_requests») t wanted-requests delay-on-init
     → wanted-alarms ≡ alarm-input input (air .output)
     → alarms-now ≡ alarms (s .alarms) t wanted-alarms delay-on-init
-    → out ≡ outputs (air .output) (flows .output) (requests .output) (alarms-now .output)
-    → _≡_ {A = ControllerStep}
-    (record {
-      state = record {
-        «time_suppression» = after .state;
-        «control_loops» = loops .state;
-        setpoints = flows .state;
-        «zone_states» = zone .state;
-        dampers = air .state;
-        «system_requests» = requests .state;
-        alarms = alarms-now .state;
-      };
-      output = out;
-    })
-    (controller-output s t input delay-on-init)
+    → controller-step after loops flows zone air requests alarms-now ≡ controller-output s t input delay-on-init
 unfolding controller-output
-whole-from s t input delay-on-init after loops wanted-setpoints flows active zone wanted-flow air wanted-requests requests wanted-alarms alarms-now out e0 e1 e2 e3 e4 e5 e6 e7 e8 e9 e10 e11 e12 =
-    rw (e12, e11, e10, e9, e8, e7, e6, e5, e4, e3, e2, e1, e0)
+whole-from s t input delay-on-init after loops wanted-setpoints flows active zone wanted-flow air wanted-requests requests wanted-alarms alarms-now e0 e1 e2 e3 e4 e5 e6 e7 e8 e9 e10 e11 =
+    rw (e11, e10, e9, e8, e7, e6, e5, e4, e3, e2, e1, e0)
 
 returns : tie.Need-returns
 returns c =
-    let mode = toZ-ofZ {w = w64} {z = c .before .before .before .before .before .before .before .before .before .before .before .before .before .before .before .before .before .before .before .before .before .before .before .before .before .before .before .args .input .«operating_mode»} (record { sfits = c .before .before .before .before .before .before .before .before .before .before .before .before .before .before .before .before .before .before .before .before .struct-told .given .1 .1 .1 .1 .1 .0 .1 }) in
-    let zone = toZ-ofZ {w = w64} {z = c .before .before .before .before .before .before .before .before .before .before .before .before .before .before .before .before .before .before .output4 .result .output} (record { sfits = c .before .before .before .before .before .before .before .before .before .before .before .before .before .before .before .before .before .struct-told2 .given .1 .0 .1 }) in
-    whole-from (c .before .before .before .before .before .before .before .before .before .before .before .before .before .before .before .before .before .before .before .before .before .before .before .before .before .before .before .args .self) (c .before .before .before .before .before .before .before .before .before .before .before .before .before .before .before .before .before .before .before .before .before .before .before .before .before .before .before .args .t) (c .before .before .before .before .before .before .before .before .before .before .before .before .before .before .before .before .before .before .before .before .before .before .before .before .before .before .before .args .input) (c .before .before .before .before .before .before .before .before .before .before .before .before .before .before .before .before .before .before .before .before .before .before .before .before .before .before .before .args .delay-on-init)
-    (c .before .before .before .before .before .before .before .before .before .before .before .before .before .before .before .before .before .before .before .before .before .before .before .before .before .before .output .result)
-    (c .before .before .before .before .before .before .before .before .before .before .before .before .before .before .before .before .before .before .before .before .before .before .before .before .before .output2 .result)
-    (c .before .before .before .before .before .before .before .before .before .before .before .before .before .before .before .before .before .before .before .before .before .before .before .setpoint-input .result)
-    (c .before .before .before .before .before .before .before .before .before .before .before .before .before .before .before .before .before .before .before .before .before .before .output3 .result)
-    (c .before .before .before .before .before .before .before .before .before .before .before .before .before .before .before .before .before .before .before .active-airflow .result)
-    (c .before .before .before .before .before .before .before .before .before .before .before .before .before .before .before .before .before .before .output4 .result)
-    (c .before .before .before .before .before .before .before .before .before .before .before .before .before .before .before .before .damper-input .result)
-    (c .before .before .before .before .before .before .before .before .before .before .before .before .before .before .before .output5 .result)
-    (c .before .before .before .before .before .before .before .before .before .before .before .before .before .request-input .result)
-    (c .before .before .before .before .before .before .before .before .before .before .before .before .output6 .result)
-    (c .before .before .before .before .before .before .before .before .before .before .before .alarm-input .result)
-    (c .before .before .before .before .before .before .before .before .before .before .output7 .result)
-    (c .controller-output .result)
-    (c .before .before .before .before .before .before .before .before .before .before .before .before .before .before .before .before .before .before .before .before .before .before .before .before .before .before .output .ensures)
-    (c .before .before .before .before .before .before .before .before .before .before .before .before .before .before .before .before .before .before .before .before .before .before .before .before .before .output2 .ensures)
-    (c .before .before .before .before .before .before .before .before .before .before .before .before .before .before .before .before .before .before .before .before .before .before .before .setpoint-input .ensures)
-    (c .before .before .before .before .before .before .before .before .before .before .before .before .before .before .before .before .before .before .before .before .before .before .output3 .ensures)
-    (rw mode at (c .before .before .before .before .before .before .before .before .before .before .before .before .before .before .before .before .before .before .before .active-airflow .ensures))
-    (c .before .before .before .before .before .before .before .before .before .before .before .before .before .before .before .before .before .before .output4 .ensures)
-    (rw zone at (c .before .before .before .before .before .before .before .before .before .before .before .before .before .before .before .before .damper-input .ensures))
-    (c .before .before .before .before .before .before .before .before .before .before .before .before .before .before .before .output5 .ensures)
-    (c .before .before .before .before .before .before .before .before .before .before .before .before .before .request-input .ensures)
-    (c .before .before .before .before .before .before .before .before .before .before .before .before .output6 .ensures)
-    (c .before .before .before .before .before .before .before .before .before .before .before .alarm-input .ensures)
-    (c .before .before .before .before .before .before .before .before .before .before .output7 .ensures)
-    (c .controller-output .ensures)
+    let mode = toZ-ofZ {w = w64} {z = c .before .before .before .before .before .before .before .before .before .before .before .before .before .before .before .before .before .before .args .input .«operating_mode»} (record { sfits = c .before .before .before .before .before .before .before .before .before .before .before .struct-told .given .1 .1 .1 .1 .1 .0 .1 }) in
+    let zone = toZ-ofZ {w = w64} {z = c .before .before .before .before .before .before .before .before .before .output4 .result .output} (record { sfits = c .before .before .before .before .before .before .before .before .struct-told2 .given .1 .0 .1 }) in
+    c .controller-step .ensures
+    ∙ whole-from (c .before .before .before .before .before .before .before .before .before .before .before .before .before .before .before .before .before .before .args .self) (c .before .before .before .before .before .before .before .before .before .before .before .before .before .before .before .before .before .before .args .t) (c .before .before .before .before .before .before .before .before .before .before .before .before .before .before .before .before .before .before .args .input) (c .before .before .before .before .before .before .before .before .before .before .before .before .before .before .before .before .before .before .args .delay-on-init)
+    (c .before .before .before .before .before .before .before .before .before .before .before .before .before .before .before .before .before .output .result)
+    (c .before .before .before .before .before .before .before .before .before .before .before .before .before .before .before .before .output2 .result)
+    (c .before .before .before .before .before .before .before .before .before .before .before .before .before .before .setpoint-input .result)
+    (c .before .before .before .before .before .before .before .before .before .before .before .before .before .output3 .result)
+    (c .before .before .before .before .before .before .before .before .before .before .active-airflow .result)
+    (c .before .before .before .before .before .before .before .before .before .output4 .result)
+    (c .before .before .before .before .before .before .before .damper-input .result)
+    (c .before .before .before .before .before .before .output5 .result)
+    (c .before .before .before .before .request-input .result)
+    (c .before .before .before .output6 .result)
+    (c .before .before .alarm-input .result)
+    (c .before .output7 .result)
+    (c .before .before .before .before .before .before .before .before .before .before .before .before .before .before .before .before .before .output .ensures)
+    (c .before .before .before .before .before .before .before .before .before .before .before .before .before .before .before .before .output2 .ensures)
+    (c .before .before .before .before .before .before .before .before .before .before .before .before .before .before .setpoint-input .ensures)
+    (c .before .before .before .before .before .before .before .before .before .before .before .before .before .output3 .ensures)
+    (rw mode at (c .before .before .before .before .before .before .before .before .before .before .active-airflow .ensures))
+    (c .before .before .before .before .before .before .before .before .before .output4 .ensures)
+    (rw zone at (c .before .before .before .before .before .before .before .damper-input .ensures))
+    (c .before .before .before .before .before .before .output5 .ensures)
+    (c .before .before .before .before .request-input .ensures)
+    (c .before .before .before .output6 .ensures)
+    (c .before .before .alarm-input .ensures)
+    (c .before .output7 .ensures)
 
 pub output-spec : {M : Type 1} → statement M
 output-spec =
