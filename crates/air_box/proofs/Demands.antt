@@ -8,9 +8,9 @@ use lib.Dec.{T, ltb, eqb, ltb→lt, nltb→le, lit<}
 use lib.Ieee.Bits.{is-true, is-false}
 use Rattle.cdl_recurrences.specs.declared.OptionalTime.{OptionalTime}
 use Rattle.cooling_only_controller.specs.declared.ControllerOutput.{ControllerOutput}
-use Rattle.air_box.specs.AirBox.{tick, questions, decided, accepted-tick, refusal-number}
+use Rattle.air_box.specs.AirBox.{tick, questions, decided, accepted-tick, refusal-number, outputs-or-number}
 use Rattle.air_box.specs.Demand1.{yes, FirstNo, Demand1}
-use Rattle.air_box.specs.Demand2.{rust-output, Demand2}
+use Rattle.air_box.specs.Demand2.{controller-step-of, Demand2}
 use Rattle.air_box.specs.declared.Tick.{Tick}
 use Rattle.air_box.specs.declared.AirBox.{AirBox}
 use Rattle.air_box.specs.declared.AirBoxStep.{AirBoxStep}
@@ -159,7 +159,7 @@ unfolding accepted-tick
 demand-2 box k all = verdict-is box k ∙ ap (λ (v : Verdict). decided v box k) (all→accept (of-box box k) all)
 
 pub demand-1 : Demand1
-demand-1 = record { refused-for-the-first-no = first-no; accepted-otherwise = accepted; refused-changes-nothing = unchanged }
+demand-1 = record { refused-for-the-first-no = first-no; gives-the-number = number; accepted-otherwise = accepted; refused-changes-nothing = unchanged }
   where
     first-no : (box : AirBox) (k : Tick) (reason : Refusal) → (tick box k .answer ≡ Refused reason) ↔ FirstNo reason (box .«last_time») k
     first-no box k reason = (
@@ -167,8 +167,11 @@ demand-1 = record { refused-for-the-first-no = first-no; accepted-otherwise = ac
       λ f. refused-verdict box k reason .1 (first→refused (of-box box k) reason (f .is-no, f .earlier-yes)),
     )
 
+    number : (box : AirBox) (k : Tick) (reason : Refusal) → FirstNo reason (box .«last_time») k → outputs-or-number (tick box k .answer) ≡ inr (refusal-number reason)
+    number box k reason f = ap outputs-or-number (first-no box k reason .1 f)
+
     accepted : (box : AirBox) (k : Tick) → ((reason : Refusal) → T (yes reason (box .«last_time») k)) → (output : ControllerOutput) × (tick box k .answer ≡ Accepted output)
-    accepted box k all = (rust-output box k .output, ap (λ (s : AirBoxStep). s .answer) (demand-2 box k all))
+    accepted box k all = (controller-step-of box k .output, ap (λ (s : AirBoxStep). s .answer) (demand-2 box k all))
 
     unchanged : (box : AirBox) (k : Tick) (reason : Refusal) → tick box k .answer ≡ Refused reason → tick box k .state ≡ box
     unchanged box k reason h =

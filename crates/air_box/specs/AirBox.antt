@@ -1,6 +1,7 @@
 -- The air box of document 01: the Rust's state with the last accepted time and the start choice beside it, the questions asked of a tick, the quiet start and the desk code.
 use Prim.Native.Nat.{ℕ}
 use mathlib.Core.Bool.{Bool, true, false, not, _&&_}
+use mathlib.Core.Logic.{_⊎_, inl, inr}
 use lib.IntN.{ℤ}
 use lib.Ieee.{Float, neg}
 use Rattle.f64_helpers.specs.F64.{_⊖_, _≤ᶠ_, _≥ᶠ_, decimal, zero, if_then_else_}
@@ -10,11 +11,13 @@ use Rattle.cdl_recurrences.specs.declared.OptionalTime.{OptionalTime}
 use Rattle.cdl_recurrences.specs.declared.OptionalTime.the-variants.{Absent, At}
 use Rattle.cooling_only_controller.specs.Controller.{controller-output, fresh-controller}
 use Rattle.cooling_only_controller.specs.declared.ControllerInput.{ControllerInput}
+use Rattle.cooling_only_controller.specs.declared.ControllerOutput.{ControllerOutput}
 use Rattle.air_box.specs.declared.Tick.{Tick}
 use Rattle.air_box.specs.declared.Start.{Start}
 use Rattle.air_box.specs.declared.Start.the-variants.{Plain, Quiet}
 use Rattle.air_box.specs.declared.AirBox.{AirBox}
 use Rattle.air_box.specs.declared.AirBoxStep.{AirBoxStep}
+use Rattle.air_box.specs.declared.Answer.{Answer}
 use Rattle.air_box.specs.declared.Answer.the-variants.{Accepted, Refused}
 use Rattle.air_box.specs.declared.Refusal.{Refusal}
 use Rattle.air_box.specs.declared.Refusal.the-variants.{NotWholeSeconds, TimeOutOfRange, BeforeLast, TooLongAfterLast, TemperatureOutOfRange, Co2OutOfRange, AirflowOutOfRange}
@@ -23,7 +26,7 @@ use Rattle.air_box.specs.declared.Verdict.the-variants.{Accept, Refuse}
 
 -- ---- document 01, 'Questions asked of a tick'
 
--- the number of each reason
+-- the number of each reason: document 01's 1 to 7
 abbrev pub refusal-number : Refusal → ℕ
 refusal-number NotWholeSeconds = 1
 refusal-number TimeOutOfRange = 2
@@ -32,6 +35,11 @@ refusal-number TooLongAfterLast = 4
 refusal-number TemperatureOutOfRange = 5
 refusal-number Co2OutOfRange = 6
 refusal-number AirflowOutOfRange = 7
+
+-- What an answer is in document 01's words: the ten outputs, or the number.
+abbrev pub outputs-or-number : Answer → ControllerOutput ⊎ ℕ
+outputs-or-number (Accepted output) = inl output
+outputs-or-number (Refused reason) = inr (refusal-number reason)
 
 -- from low to high, the ends included; a NaN is not
 abbrev pub within : Float → Float → Float → Bool
@@ -77,7 +85,7 @@ delay-on-init Quiet = true
 abbrev pub fresh-box : Start → AirBox
 fresh-box start = record { state = fresh-controller; «last_time» = Absent; start = start }
 
--- A tick that every question lets pass: the Rust's output and next state, and its time becomes the last accepted one.
+-- A tick that every question lets pass: the controller's outputs and next state, and its time becomes the last accepted one.
 unfoldable pub accepted-tick : AirBox → Tick → AirBoxStep
 accepted-tick box k =
     let step = controller-output (box .state) (k .t) (k .input) (delay-on-init (box .start)) in

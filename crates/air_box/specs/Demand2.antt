@@ -1,5 +1,6 @@
--- Demand 2. On every accepted tick, whatever the box holds, all ten outputs and the next state are those of the Rust's `ControllerState::output`, by one equation for the whole answer.
--- The method `AirBox::tick` returns `tick` of the box and the tick, by its contract; `controller-output` follows the Rust stage by stage.
+-- Demand 2. On every accepted tick, whatever the box holds, all ten outputs and each field of the next state are those of `controller-output`, by one equation for the whole answer.
+-- `controller-output` follows the Rust's `ControllerState::output` stage by stage, with document 01's rules for the helpers. For a box grown from a start that is what the Rust gives, bit for bit (docs/DIFFERENCES.md).
+-- The method `AirBox::tick` returns `tick` of the box and the tick, by its contract.
 use mathlib.Core.Path.{_≡_}
 use lib.Dec.{T}
 use Rattle.cdl_recurrences.specs.declared.OptionalTime.the-variants.{At}
@@ -13,15 +14,15 @@ use Rattle.air_box.specs.declared.AirBoxStep.{AirBoxStep}
 use Rattle.air_box.specs.declared.Answer.the-variants.{Accepted}
 use Rattle.air_box.specs.declared.Refusal.{Refusal}
 
--- what the Rust gives for this tick, from the Rust's state in the box; the start choice decides delay_on_init in the nine calls
-abbrev pub rust-output : AirBox → Tick → ControllerStep
-rust-output box k = controller-output (box .state) (k .t) (k .input) (delay-on-init (box .start))
+-- the controller's step for this tick, from its state in the box; the start choice decides delay_on_init in the nine calls
+abbrev pub controller-step-of : AirBox → Tick → ControllerStep
+controller-step-of box k = controller-output (box .state) (k .t) (k .input) (delay-on-init (box .start))
 
 abbrev pub Demand2 : Type 0
 Demand2 =
     (box : AirBox) (k : Tick) → ((reason : Refusal) → T (yes reason (box .«last_time») k))
     → tick box k
     ≡ record {
-      state = record { state = rust-output box k .state; «last_time» = At (k .t); start = box .start };
-      answer = Accepted (rust-output box k .output);
+      state = record { state = controller-step-of box k .state; «last_time» = At (k .t); start = box .start };
+      answer = Accepted (controller-step-of box k .output);
     }

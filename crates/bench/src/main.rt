@@ -71,6 +71,8 @@ fn first_ticks() {
         b"250 suppression",
         flag(third.state.time_suppression.previous_active),
     );
+    let delayed = third.state.time_suppression.previous_sample.held;
+    print(b"250 unit delay gives 0.0", flag(delayed == 0.0));
 }
 
 fn refusals_of_time() {

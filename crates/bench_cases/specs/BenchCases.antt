@@ -6,14 +6,15 @@ use lib.ListN.{length, replicate}
 use mathlib.Core.Bool.{Bool, true, false}
 use lib.IntN.{ℤ, pos, negsuc}
 use lib.Ieee.{Float, neg}
-use Rattle.f64_helpers.specs.F64.{_⊗_, _>ᶠ_, decimal, zero}
+use Rattle.f64_helpers.specs.F64.{decimal, zero}
 use Rattle.cdl_recurrences.specs.CdlRecurrences.{buildings-line}
-use Rattle.cdl_recurrences.specs.DeadBand.{greater-hysteretic-after}
 use Rattle.cooling_only_controller_timing.specs.Timing.{sampler-sample, fresh-sampler}
 use Rattle.cooling_only_controller_timing.specs.History.{Sample, true-delay-after}
 use Rattle.cooling_only_controller_timing.specs.declared.SamplerState.{SamplerState}
-use Rattle.cooling_only_controller_conditioning.specs.Conditioning.{active-airflow, suppression-window, zone-states, fresh-zone-states}
-use Rattle.cooling_only_controller_airflow.specs.Airflow.{airflow-override}
+use Rattle.cooling_only_controller_conditioning.specs.Conditioning.{active-airflow, suppression-window, window-passed, zone-states, fresh-zone-states}
+use Rattle.cooling_only_controller_airflow.specs.Airflow.{airflow-override, alarms, fresh-alarms}
+use Rattle.cooling_only_controller_airflow.specs.declared.AlarmInput.{AlarmInput}
+use Rattle.cooling_only_controller_airflow.specs.declared.AlarmsState.{AlarmsState}
 use Rattle.cooling_only_controller.specs.declared.ControllerOutput.{ControllerOutput}
 use Rattle.air_box.specs.AirBox.{tick, fresh-box}
 use Rattle.air_box.specs.declared.Tick.{Tick}
@@ -38,34 +39,41 @@ a is b = record { gives = a; should-be = b }
 
 -- ---- a, b, c: a true delay of 600, plain start
 -- samples each 60 seconds from 0, with these inputs, newest first
-abbrev pub each-60 : List Bool → List Sample
+abbrev each-60 : List Bool → List Sample
 each-60 [] = []
 each-60 (input ∷ older) = record { time = decimal (60 * length older) 1; input = input } ∷ each-60 older
 
-abbrev pub delayed : List Bool → Value
+abbrev delayed : List Bool → Value
 delayed inputs = flag (true-delay-after (decimal 600 1) false (each-60 inputs) .held)
 
 -- b: false at 0, then true n times
-abbrev pub b-after : ℕ → Value
+abbrev b-after : ℕ → Value
 b-after n = delayed (replicate n true ++ (false ∷ []))
 
 -- c: false at 0, true up to 240, false at 300, then true n times
-abbrev pub c-after : ℕ → Value
+abbrev c-after : ℕ → Value
 c-after n = delayed (replicate n true ++ (false ∷ (replicate 4 true ++ (false ∷ []))))
 
--- ---- d: the flow-high comparator of the alarms, newest flow first
-abbrev pub high : List Float → Value
-high flows = flag (greater-hysteretic-after (decimal 1 10 ⊗ decimal 15 10) (decimal 1 100) flows)
+-- ---- d: the flow-high memory of the alarms stage after these flows, newest first
+abbrev flow-of : Float → AlarmInput
+flow-of flow = record { «discharge_airflow» = flow; «active_airflow_setpoint» = zero; «supply_fan_status» = false; «operation_mode» = pos 1; «damper_position» = zero }
+
+abbrev alarms-after : List Float → AlarmsState
+alarms-after [] = fresh-alarms
+alarms-after (flow ∷ older) = alarms (alarms-after older) zero (flow-of flow) false .state
+
+abbrev high : List Float → Value
+high flows = flag (alarms-after flows .«flow_high»)
 
 -- ---- i: the sampler of period 120, first tick at 130 with 1.0, then one with 2.0
-abbrev pub first-sampled : SamplerState
+abbrev first-sampled : SamplerState
 first-sampled = sampler-sample fresh-sampler (decimal 130 1) (decimal 1 1) (decimal 120 1) .state
 
-abbrev pub then-sampled : Float → Value
+abbrev then-sampled : Float → Value
 then-sampled t = number (sampler-sample first-sampled t (decimal 2 1) (decimal 120 1) .output)
 
 -- ---- k: the whole box on its first tick
-abbrev pub tick-k : Tick
+abbrev tick-k : Tick
 tick-k =
     record {
       t = zero;
@@ -88,7 +96,7 @@ tick-k =
     }
 
 -- the damper command of an answer; a refusal has none, for which -1.0 stands
-abbrev pub damper-command : Answer → Value
+abbrev damper-command : Answer → Value
 damper-command (Accepted output) = number (output .«damper_command»)
 damper-command (Refused reason) = number (neg (decimal 1 1))
 
@@ -97,35 +105,65 @@ cases =
     -- a: the first tick true
     (delayed (true ∷ []) is flag true)
     -- b: at 600 and at 660
-    ∷ (b-after 10 is flag false) ∷ (b-after 11 is flag true)
-    -- c: at 360 and each 60 after, up to 900, and at 960
-    ∷ (c-after 1 is flag false) ∷ (c-after 2 is flag false) ∷ (c-after 3 is flag false) ∷ (c-after 4 is flag false) ∷ (c-after 5 is flag false)
-    ∷ (c-after 6 is flag false) ∷ (c-after 7 is flag false) ∷ (c-after 8 is flag false) ∷ (c-after 9 is flag false) ∷ (c-after 10 is flag false) ∷ (c-after 11 is flag true)
+    ∷ (b-after 10 is flag false)
+    ∷ (b-after 11 is flag true)
+    -- c: at 0 and each 60 after, up to 900, and at 960
+    ∷ (b-after 0 is flag false)
+    ∷ (b-after 1 is flag false)
+    ∷ (b-after 2 is flag false)
+    ∷ (b-after 3 is flag false)
+    ∷ (b-after 4 is flag false)
+    ∷ (c-after 0 is flag false)
+    ∷ (c-after 1 is flag false)
+    ∷ (c-after 2 is flag false)
+    ∷ (c-after 3 is flag false)
+    ∷ (c-after 4 is flag false)
+    ∷ (c-after 5 is flag false)
+    ∷ (c-after 6 is flag false)
+    ∷ (c-after 7 is flag false)
+    ∷ (c-after 8 is flag false)
+    ∷ (c-after 9 is flag false)
+    ∷ (c-after 10 is flag false)
+    ∷ (c-after 11 is flag true)
     -- d
-    ∷ (high (decimal 16 100 ∷ []) is flag true) ∷ (high (decimal 145 1000 ∷ decimal 16 100 ∷ []) is flag true)
-    ∷ (high (decimal 13 100 ∷ decimal 145 1000 ∷ decimal 16 100 ∷ []) is flag false) ∷ (high (decimal 145 1000 ∷ []) is flag false)
+    ∷ (high (decimal 16 100 ∷ []) is flag true)
+    ∷ (high (decimal 145 1000 ∷ decimal 16 100 ∷ []) is flag true)
+    ∷ (high (decimal 13 100 ∷ decimal 145 1000 ∷ decimal 16 100 ∷ []) is flag false)
+    ∷ (high (decimal 145 1000 ∷ []) is flag false)
     -- e
-    ∷ (of-base (airflow-override (pos 1)) is of-base (λ base. zero)) ∷ (of-base (airflow-override (pos 2)) is of-base (λ base. decimal 15 10))
-    ∷ (of-base (airflow-override (pos 3)) is of-base (λ base. decimal 5 10)) ∷ (of-base (airflow-override (negsuc 0)) is of-base (λ base. base))
-    ∷ (of-base (airflow-override (pos 0)) is of-base (λ base. base)) ∷ (of-base (airflow-override (pos 4)) is of-base (λ base. base))
+    ∷ (of-base (airflow-override (pos 1)) is of-base (λ base. zero))
+    ∷ (of-base (airflow-override (pos 2)) is of-base (λ base. decimal 15 10))
+    ∷ (of-base (airflow-override (pos 3)) is of-base (λ base. decimal 5 10))
+    ∷ (of-base (airflow-override (negsuc 0)) is of-base (λ base. base))
+    ∷ (of-base (airflow-override (pos 0)) is of-base (λ base. base))
+    ∷ (of-base (airflow-override (pos 4)) is of-base (λ base. base))
     -- f
-    ∷ (number (active-airflow (pos 1) (decimal 75 100) .«cooling_maximum») is number (decimal 15 10)) ∷ (number (active-airflow (pos 1) (decimal 75 100) .minimum) is number (decimal 75 100))
-    ∷ (number (active-airflow (pos 2) (decimal 75 100) .«cooling_maximum») is number (decimal 15 10)) ∷ (number (active-airflow (pos 2) (decimal 75 100) .minimum) is number zero)
-    ∷ (number (active-airflow (pos 3) (decimal 75 100) .«cooling_maximum») is number (decimal 15 10)) ∷ (number (active-airflow (pos 3) (decimal 75 100) .minimum) is number zero)
-    ∷ (number (active-airflow (pos 4) (decimal 75 100) .«cooling_maximum») is number zero) ∷ (number (active-airflow (pos 4) (decimal 75 100) .minimum) is number zero)
+    ∷ (number (active-airflow (pos 1) (decimal 75 100) .«cooling_maximum») is number (decimal 15 10))
+    ∷ (number (active-airflow (pos 1) (decimal 75 100) .minimum) is number (decimal 75 100))
+    ∷ (number (active-airflow (pos 2) (decimal 75 100) .«cooling_maximum») is number (decimal 15 10))
+    ∷ (number (active-airflow (pos 2) (decimal 75 100) .minimum) is number zero)
+    ∷ (number (active-airflow (pos 3) (decimal 75 100) .«cooling_maximum») is number (decimal 15 10))
+    ∷ (number (active-airflow (pos 3) (decimal 75 100) .minimum) is number zero)
+    ∷ (number (active-airflow (pos 4) (decimal 75 100) .«cooling_maximum») is number zero)
+    ∷ (number (active-airflow (pos 4) (decimal 75 100) .minimum) is number zero)
     -- g
     ∷ (number (buildings-line zero (decimal 5 10) (decimal 1 1) (decimal 15 10) (decimal 25 100)) is number (decimal 75 100))
     ∷ (number (buildings-line zero (decimal 5 10) (decimal 1 1) (decimal 15 10) (neg (decimal 1 1))) is number (decimal 5 10))
     ∷ (number (buildings-line zero (decimal 5 10) (decimal 1 1) (decimal 15 10) (decimal 2 1)) is number (decimal 15 10))
     -- h
     ∷ (number (suppression-window (decimal 297 1) (decimal 296 1)) is number (decimal 540 1))
-    ∷ (flag (decimal 540 1 >ᶠ suppression-window (decimal 297 1) (decimal 296 1)) is flag false) ∷ (flag (decimal 600 1 >ᶠ suppression-window (decimal 297 1) (decimal 296 1)) is flag true)
+    ∷ (flag (window-passed (decimal 540 1) (decimal 297 1) (decimal 296 1)) is flag false)
+    ∷ (flag (window-passed (decimal 600 1) (decimal 297 1) (decimal 296 1)) is flag true)
     ∷ (number (suppression-window (decimal 300 1) (decimal 296 1)) is number (decimal 1800 1))
-    ∷ (flag (decimal 1800 1 >ᶠ suppression-window (decimal 300 1) (decimal 296 1)) is flag false) ∷ (flag (decimal 1860 1 >ᶠ suppression-window (decimal 300 1) (decimal 296 1)) is flag true)
+    ∷ (flag (window-passed (decimal 1800 1) (decimal 300 1) (decimal 296 1)) is flag false)
+    ∷ (flag (window-passed (decimal 1860 1) (decimal 300 1) (decimal 296 1)) is flag true)
     -- i
-    ∷ (number (first-sampled .t0) is number (decimal 120 1)) ∷ (then-sampled (decimal 239 1) is number (decimal 1 1)) ∷ (then-sampled (decimal 240 1) is number (decimal 2 1))
+    ∷ (number (first-sampled .t0) is number (decimal 120 1))
+    ∷ (then-sampled (decimal 239 1) is number (decimal 1 1))
+    ∷ (then-sampled (decimal 240 1) is number (decimal 2 1))
     -- j
-    ∷ (integer (zone-states fresh-zone-states (decimal 6 100) zero .output) is integer (pos 1)) ∷ (integer (zone-states fresh-zone-states (decimal 6 100) (decimal 6 100) .output) is integer (pos 3))
+    ∷ (integer (zone-states fresh-zone-states (decimal 6 100) zero .output) is integer (pos 1))
+    ∷ (integer (zone-states fresh-zone-states (decimal 6 100) (decimal 6 100) .output) is integer (pos 3))
     ∷ (integer (zone-states fresh-zone-states zero zero .output) is integer (pos 2))
     -- k
     ∷ (damper-command (tick (fresh-box Plain) tick-k .answer) is number (decimal 25 100))

@@ -1,4 +1,4 @@
--- What the recurrences of cdl_recurrences.rs return, in that file's order. Each definition names its Rust function and, where there is one, its block of the Modelica Buildings library (CDL).
+-- What the recurrences of cdl_recurrences.rs return, in that file's order, each after what it uses. Each definition names its Rust function and, where there is one, its block of the Modelica Buildings library (CDL).
 -- Document 01 decides `clamp`, `hysteresis`, `less-hysteretic`, `sampler-output`, `initial-sample-time`, `sample-index` and `sample-due`; docs/DIFFERENCES.md has each pair that differs.
 use mathlib.Core.Bool.{Bool, true, false, not, _&&_, _||_}
 use lib.IntN.{ℤ}
@@ -60,7 +60,7 @@ buildings-round-six x =
     let half = decimal 5 10 in
     if x >ᶠ zero then floor (x ⊗ factor ⊕ half) ⊘ factor else ceil (x ⊗ factor ⊖ half) ⊘ factor
 
--- Rust `initial_sample_time`; the `t0` of CDL.Discrete.Sampler and UnitDelay: the last sample instant that is not after the start
+-- Rust `initial_sample_time`; the `t0` of CDL.Discrete.Sampler and UnitDelay: the last sample instant that is not after the start. Below one period it is -0.0.
 unfoldable pub initial-sample-time : Float → Float → Float
 initial-sample-time t-start period = buildings-round-six (floor (t-start ⊘ period) ⊗ period)
 

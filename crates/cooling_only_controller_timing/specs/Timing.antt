@@ -24,9 +24,9 @@ fresh-sampler = record { initialized = false; t0 = zero; «last_index» = pos 0;
 -- The state after a tick. The first one starts the grid and is sampled; a later one is sampled when due.
 unfoldable pub sampler-after-sample : SamplerState → Float → Float → Float → SamplerState
 sampler-after-sample s t input period =
-    let t0 = initial-sample-time t period in
+    let first-t0 = initial-sample-time t period in
     let next = sample-due t (s .t0) period (s .«last_index») in
-    if not (s .initialized) then record { initialized = true; t0 = t0; «last_index» = sample-index t t0 period; held = input }
+    if not (s .initialized) then record { initialized = true; t0 = first-t0; «last_index» = sample-index t first-t0 period; held = input }
     else if next .due then record { initialized = true; t0 = s .t0; «last_index» = next .index; held = input }
     else s
 
@@ -44,11 +44,11 @@ fresh-unit-delay = record { initialized = false; t0 = zero; «last_index» = pos
 -- The state after the first tick: its input is staged only if t is within 1e-9 periods of the grid.
 unfoldable pub unit-delay-first-sample : UnitDelayState → Float → Float → Float → UnitDelayState
 unit-delay-first-sample s t input period =
-    let t0 = initial-sample-time t period in
-    let last-index = sample-index t t0 period in
-    let sample-position = (t ⊖ t0) ⊘ period in
+    let first-t0 = initial-sample-time t period in
+    let last-index = sample-index t first-t0 period in
+    let sample-position = (t ⊖ first-t0) ⊘ period in
     let on-grid = abs (sample-position ⊖ as-f64 last-index) ≤ᶠ decimal 1 1000000000 in
-    record { initialized = true; t0 = t0; «last_index» = last-index; held = s .held; staged = if on-grid then input else s .staged }
+    record { initialized = true; t0 = first-t0; «last_index» = last-index; held = s .held; staged = if on-grid then input else s .staged }
 
 -- Rust `UnitDelayState::sample`
 unfoldable pub unit-delay-sample : UnitDelayState → Float → Float → Float → UnitDelayStep

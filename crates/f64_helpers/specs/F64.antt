@@ -6,6 +6,7 @@ use mathlib.Core.Bool.{Bool, false, cond}
 use lib.IntN.{pos}
 use lib.Ieee.{Float, fin, binary64, round, add, sub, mul, div, lt, le}
 
+-- They group as Rust's operators do: ⊗ and ⊘ before ⊕ and ⊖, each from the left, and comparisons last. An `else` part reaches to the end.
 infixl 6 _⊕_ _⊖_
 infixl 7 _⊗_ _⊘_
 infix 4 _<ᶠ_ _>ᶠ_ _≤ᶠ_ _≥ᶠ_
