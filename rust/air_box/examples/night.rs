@@ -1,0 +1,61 @@
+//! Runs the ticks on standard input, in the line format of the program `ticks`, and prints an answer for each.
+//! Malformed lines are not handled.
+
+use air_box::{AirBox, Input, Tick};
+use std::io::{self, BufRead, BufWriter, Write};
+
+fn tick_of(words: &[u64]) -> Tick {
+    let real = |i: usize| f64::from_bits(words[i]);
+    let flag = |bit: u64| words[13] & bit != 0;
+    Tick {
+        t: real(1),
+        input: Input {
+            zone_temperature: real(2),
+            cooling_setpoint: real(3),
+            heating_setpoint: real(4),
+            window_status: flag(1),
+            occupancy_status: flag(2),
+            operating_mode: words[10] as i64,
+            co2_setpoint: real(5),
+            co2_concentration: real(6),
+            discharge_air_temperature: real(7),
+            supply_air_temperature: real(8),
+            discharge_airflow: real(9),
+            airflow_override_index: words[11] as i64,
+            damper_override_index: words[12] as i64,
+            supply_fan_status: flag(4),
+        },
+    }
+}
+
+fn main() -> io::Result<()> {
+    let mut out = BufWriter::new(io::stdout().lock());
+    let mut air_box = AirBox::plain();
+    for line in io::stdin().lock().lines() {
+        let line = line?;
+        let words: Vec<u64> = line.split(' ').map(|w| u64::from_str_radix(w, 16).expect("hex digits")).collect();
+        match words[0] {
+            1 => air_box = AirBox::plain(),
+            2 => air_box = AirBox::quiet(),
+            _ => {}
+        }
+        match air_box.tick(&tick_of(&words)) {
+            Err(reason) => writeln!(out, "refused {}", reason as u8)?,
+            Ok(o) => writeln!(
+                out,
+                "{:016x} {:016x} {:016x} {:016x} {:016x} {} {} {} {} {}",
+                o.airflow_setpoint.to_bits(),
+                o.damper_command.to_bits(),
+                o.adjusted_population_flow.to_bits(),
+                o.adjusted_area_flow.to_bits(),
+                o.minimum_outdoor_airflow.to_bits(),
+                o.zone_temperature_reset_request,
+                o.zone_pressure_reset_request,
+                o.low_airflow_alarm,
+                o.airflow_sensor_alarm,
+                o.leaking_damper_alarm
+            )?,
+        }
+    }
+    out.flush()
+}

@@ -1,0 +1,68 @@
+//! What a user of the wrapper relies on: refusals change nothing, the starts differ, the codes are document 01's.
+
+use air_box::{AirBox, Input, Refusal, Tick, desk_code};
+
+fn at(t: f64) -> Tick {
+    Tick {
+        t,
+        input: Input {
+            zone_temperature: 296.0,
+            cooling_setpoint: 297.0,
+            heating_setpoint: 293.0,
+            window_status: true,
+            occupancy_status: true,
+            operating_mode: 1,
+            co2_setpoint: 894.0,
+            co2_concentration: 600.0,
+            discharge_air_temperature: 288.0,
+            supply_air_temperature: 287.0,
+            discharge_airflow: 0.75,
+            airflow_override_index: 2,
+            damper_override_index: 0,
+            supply_fan_status: true,
+        },
+    }
+}
+
+#[test]
+fn first_tick_with_override_two() {
+    let output = AirBox::plain().tick(&at(0.0)).expect("accepted");
+    assert_eq!((output.airflow_setpoint, output.damper_command), (1.5, 0.25));
+}
+
+#[test]
+fn refusals_give_their_reason_and_change_nothing() {
+    let mut air_box = AirBox::plain();
+    air_box.tick(&at(1000.0)).expect("accepted");
+    let mut beside = air_box.clone();
+    assert_eq!(air_box.tick(&at(0.5)), Err(Refusal::NotWholeSeconds));
+    assert_eq!(air_box.tick(&at(-1.0)), Err(Refusal::TimeOutOfRange));
+    assert_eq!(air_box.tick(&at(999.0)), Err(Refusal::BeforeLast));
+    assert_eq!(air_box.tick(&at(1241.0)), Err(Refusal::TooLongAfterLast));
+    let mut cold = at(1060.0);
+    cold.input.zone_temperature = f64::NAN;
+    assert_eq!(air_box.tick(&cold), Err(Refusal::TemperatureOutOfRange));
+    for t in [1240.0, 1300.0, 1540.0] {
+        assert_eq!(air_box.tick(&at(t)), beside.tick(&at(t)));
+    }
+}
+
+#[test]
+fn quiet_start_waits_with_the_low_alarm() {
+    let first = |mut air_box: AirBox| {
+        (0..60).map(|minute| minute as f64 * 60.0).find(|&t| {
+            let mut tick = at(t);
+            tick.input.discharge_airflow = 0.0;
+            air_box.tick(&tick).expect("accepted").low_airflow_alarm != 0
+        })
+    };
+    assert_eq!(first(AirBox::plain()), Some(0.0));
+    assert_eq!(first(AirBox::quiet()), Some(2100.0));
+}
+
+#[test]
+fn desk_codes() {
+    let alarms = [(2, 3, 4), (3, 3, 4), (0, 3, 4), (0, 0, 4), (0, 0, 0), (7, -1, 12)];
+    let codes = alarms.map(|(low, sensor, leak)| desk_code(low, sensor, leak));
+    assert_eq!(codes, [12, 13, 23, 34, 0, 0]);
+}
