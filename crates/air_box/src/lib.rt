@@ -7,6 +7,7 @@ use cooling_only_controller::ControllerOutput;
 use cooling_only_controller::ControllerState;
 
 // What a tick carries: its time in seconds, and the readings and settings.
+#[repr(C)]
 pub struct Tick {
     pub t: f64,
     pub input: ControllerInput,

@@ -26,6 +26,7 @@ use cooling_only_controller_conditioning::TimeSuppressionStep;
 use cooling_only_controller_conditioning::ZoneStatesState;
 use cooling_only_controller_conditioning::ZoneStatesStep;
 
+#[repr(C)]
 pub struct ControllerInput {
     pub zone_temperature: f64,
     pub cooling_setpoint: f64,
@@ -43,6 +44,7 @@ pub struct ControllerInput {
     pub supply_fan_status: bool,
 }
 
+#[repr(C)]
 pub struct ControllerOutput {
     pub airflow_setpoint: f64,
     pub damper_command: f64,

@@ -44,6 +44,7 @@ const COOLING_DISTRIBUTION_EFFECTIVENESS: f64 = 1.0;
 const HEATING_DISTRIBUTION_EFFECTIVENESS: f64 = 0.8;
 
 // Set by a rising input, held until cleared; the clear wins.
+#[repr(C)]
 pub struct LatchState {
     pub held: bool,
     pub previous_input: bool,
@@ -442,6 +443,7 @@ pub struct SetpointOutput {
 }
 
 // Whether the supply cools: the one memory of the ventilation setpoints.
+#[repr(C)]
 pub struct SetpointsState {
     pub cooling_supply: bool,
 }
@@ -533,6 +535,7 @@ pub fn active_airflow(operating_mode: i64, occupied_minimum: f64) -> ActiveAirfl
     }
 }
 
+#[repr(C)]
 pub struct ZoneStatesState {
     pub heating_signal: bool,
     pub cooling_signal: bool,

@@ -4,6 +4,7 @@ ghost use Rattle.cooling_only_controller_timing.specs.Timing as Timing;
 use cdl_recurrences::OptionalTime;
 
 // Periodic sampler.
+#[repr(C)]
 pub struct SamplerState {
     pub initialized: bool,
     pub t0: f64,
@@ -74,6 +75,7 @@ impl SamplerState {
 }
 
 // Unit delay of one period: the output that it holds, and the sample staged for the next instant.
+#[repr(C)]
 pub struct UnitDelayState {
     pub initialized: bool,
     pub t0: f64,

@@ -1,0 +1,16 @@
+-- `air_box_c::TimerC::fresh` meets its contract. Assumes nothing.
+use lib.Ieee.{ofBits}
+use borrow.Author.Needs.{needs}
+use Rattle.air_box_c.specs.Records.{shut-timer}
+use Rattle.air_box_c.proofs.TimerC.fresh.Statement.{statement}
+use Rattle.air_box_c.proofs.TimerC.fresh.Tie as tie
+
+absent-requires : tie.Need-absent-requires
+absent-requires c κs = search needs
+
+returns : tie.Need-returns
+unfolding shut-timer ofBits
+returns c = rw (c .absent .ensures)
+
+pub fresh-spec : {M : Type 1} → statement M
+fresh-spec = tie.close (tie.spec absent-requires returns)

@@ -1,0 +1,26 @@
+-- `air_box_c::air_box_fresh` meets its contract. Assumes nothing.
+use borrow.Author.Needs.{needs}
+use Rattle.air_box_c.specs.Records.{open-box, open-time}
+use Rattle.air_box_c.proofs.OpenShut.{open-shut-controller}
+use Rattle.air_box_c.proofs.air_box_fresh.Statement.{statement}
+use Rattle.air_box_c.proofs.air_box_fresh.Tie as tie
+
+fresh-requires : tie.Need-fresh-requires
+fresh-requires c κs = search needs
+
+absent-requires : tie.Need-absent-requires
+absent-requires c κs = search needs
+
+zero-output-requires : tie.Need-zero-output-requires
+zero-output-requires c κs = search needs
+
+returns : tie.Need-returns
+unfolding open-box open-time
+returns c = record {
+  box = rw (c .before .absent .ensures, c .before .before .fresh .ensures, open-shut-controller);
+  answer = rw (c .zero-output .ensures);
+}
+
+pub air-box-fresh-spec : {M : Type 1} → statement M
+air-box-fresh-spec =
+    tie.close (tie.spec fresh-requires absent-requires zero-output-requires returns)

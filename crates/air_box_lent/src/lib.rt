@@ -1,0 +1,15 @@
+// The entry that ticks a box lent for change, as the Rust's `output` does: thin over the method by value.
+ghost use mathlib.Core.Path.{_≡_};
+ghost use Rattle.air_box.specs.AirBox as AirBoxes;
+use air_box::AirBox;
+use air_box::Answer;
+use air_box::Tick;
+
+// One tick: the box is the next one as the call returns, or the old one where the tick is refused.
+pub fn tick_lent(b: &mut AirBox, tick: Tick) -> Answer
+    ensures { λ r. ⌜ (now (b .exit) ≡ AirBoxes.tick (now (b .entry)) tick .state) × (r ≡ AirBoxes.tick (now (b .entry)) tick .answer) ⌝ }
+{
+    let step = b.tick(tick);
+    *b = step.state;
+    step.answer
+}
