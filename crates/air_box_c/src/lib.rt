@@ -687,17 +687,11 @@ impl AnswerC {
         ensures { λ r. ⌜ r ≡ Records.shut-answer s ⌝ }
     {
         match s {
-            Answer::Accepted(output) => AnswerC {
-                number: 0,
-                output,
-            },
+            Answer::Accepted(output) => AnswerC { number: 0, output },
             Answer::Refused(reason) => {
                 let number = reason.number();
                 let output = zero_output();
-                AnswerC {
-                    number,
-                    output,
-                }
+                AnswerC { number, output }
             }
         }
     }
@@ -814,11 +808,7 @@ impl AirBoxC {
 fn start_of(quiet: bool) -> Start
     ensures { λ r. ⌜ r ≡ Records.start-of quiet ⌝ }
 {
-    if quiet {
-        Start::Quiet
-    } else {
-        Start::Plain
-    }
+    if quiet { Start::Quiet } else { Start::Plain }
 }
 
 // A box that has had no tick. Its answer is the number 0 and zeros. It does not go by `shut`, which is compiled into the tick where it has no other caller.
@@ -833,10 +823,7 @@ pub extern "C" fn air_box_fresh(quiet: bool) -> AirBoxC
         state,
         last_time,
         quiet,
-        answer: AnswerC {
-            number: 0,
-            output,
-        },
+        answer: AnswerC { number: 0, output },
     }
 }
 
@@ -855,7 +842,11 @@ pub extern "C" fn air_box_tick(b: &mut AirBoxC, tick: &Tick)
 
 // One number from the three alarms.
 #[no_mangle]
-pub extern "C" fn air_box_desk_code(low_airflow: i64, airflow_sensor: i64, leaking_damper: i64) -> u8
+pub extern "C" fn air_box_desk_code(
+    low_airflow: i64,
+    airflow_sensor: i64,
+    leaking_damper: i64,
+) -> u8
     ensures { λ r. ⌜ r ≡ AirBoxes.desk-code «low_airflow» «airflow_sensor» «leaking_damper» ⌝ }
 {
     air_box::desk_code(low_airflow, airflow_sensor, leaking_damper)

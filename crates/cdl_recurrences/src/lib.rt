@@ -170,7 +170,7 @@ pub fn buildings_round_six(x: f64) -> f64
 pub fn sample_index(t_now: f64, t0: f64, period: f64) -> i64
     ensures { λ r. ⌜ r ≡ Cdl.sample-index «t_now» t0 period ⌝ }
 {
-    f64_helpers::as_i64(f64_helpers::floor((t_now - t0) / period))
+    f64_helpers::floor_as_i64((t_now - t0) / period)
 }
 
 pub fn sample_due(t_now: f64, t0: f64, period: f64, last_index: i64) -> SampleDue

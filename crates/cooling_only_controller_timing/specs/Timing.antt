@@ -21,12 +21,17 @@ use Rattle.cooling_only_controller_timing.specs.declared.TimerStep.{Time
 abbrev pub fresh-sampler : SamplerState
 fresh-sampler = record { initialized = false; t0 = zero; «last_index» = pos 0; held = zero }
 
--- The state after a tick. The first one starts the grid and is sampled; a later one is sampled when due.
+-- The state after the first tick, which starts the grid and is sampled.
+abbrev pub sampler-first-sample : Float → Float → Float → SamplerState
+sampler-first-sample t input period =
+    let first-t0 = initial-sample-time t period in
+    record { initialized = true; t0 = first-t0; «last_index» = sample-index t first-t0 period; held = input }
+
+-- The state after a tick: a tick after the first is sampled when due.
 unfoldable pub sampler-after-sample : SamplerState → Float → Float → Float → SamplerState
 sampler-after-sample s t input period =
-    let first-t0 = initial-sample-time t period in
     let next = sample-due t (s .t0) period (s .«last_index») in
-    if not (s .initialized) then record { initialized = true; t0 = first-t0; «last_index» = sample-index t first-t0 period; held = input }
+    if not (s .initialized) then sampler-first-sample t input period
     else if next .due then record { initialized = true; t0 = s .t0; «last_index» = next .index; held = input }
     else s
 

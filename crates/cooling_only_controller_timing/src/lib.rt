@@ -29,48 +29,50 @@ impl SamplerState {
         }
     }
 
+    // A sample's being due decides both the output and what is stored, so it is asked once.
     pub fn sample(self, t: f64, input: f64, period: f64) -> SamplerStep
         ensures { λ r. ⌜ r ≡ Timing.sampler-sample self t input period ⌝ }
-    {
-        let output = cdl_recurrences::sampler_output(
-            t,
-            input,
-            period,
-            self.initialized,
-            self.t0,
-            self.last_index,
-            self.held,
-        );
-        let state = self.after_sample(t, input, period);
-        SamplerStep { state, output }
-    }
-
-    // The state after a tick: the first one starts the grid, and a later one is stored when a sample is due.
-    fn after_sample(self, t: f64, input: f64, period: f64) -> SamplerState
-        ensures { λ r. ⌜ r ≡ Timing.sampler-after-sample self t input period ⌝ }
     {
         if self.initialized {
             let next = cdl_recurrences::sample_due(t, self.t0, period, self.last_index);
             if next.due {
-                SamplerState {
+                let state = SamplerState {
                     initialized: true,
                     t0: self.t0,
                     last_index: next.index,
                     held: input,
+                };
+                SamplerStep {
+                    state,
+                    output: input,
                 }
             } else {
-                self
+                SamplerStep {
+                    state: self,
+                    output: self.held,
+                }
             }
         } else {
-            let t0 = cdl_recurrences::initial_sample_time(t, period);
-            let index = cdl_recurrences::sample_index(t, t0, period);
-            SamplerState {
-                initialized: true,
-                t0,
-                last_index: index,
-                held: input,
+            let state = first_sampled(t, input, period);
+            SamplerStep {
+                state,
+                output: input,
             }
         }
+    }
+}
+
+// The first tick starts the grid and is sampled.
+fn first_sampled(t: f64, input: f64, period: f64) -> SamplerState
+    ensures { λ r. ⌜ r ≡ Timing.sampler-first-sample t input period ⌝ }
+{
+    let t0 = cdl_recurrences::initial_sample_time(t, period);
+    let index = cdl_recurrences::sample_index(t, t0, period);
+    SamplerState {
+        initialized: true,
+        t0,
+        last_index: index,
+        held: input,
     }
 }
 

@@ -108,6 +108,21 @@ pub fn as_i64(x: f64) -> i64
     }
 }
 
+// `x.floor() as i64`. Between 0 and 2^52 the whole part is both, with no way back through a float.
+pub fn floor_as_i64(x: f64) -> i64
+    ensures { λ r. ⌜ r ≡ Helpers.as-i64 (Helpers.floor x) ⌝ }
+{
+    if x > 0.0 {
+        if x < 4503599627370496.0 {
+            std::num::truncating_f64_to_u64(x) as i64
+        } else {
+            as_i64(floor(x))
+        }
+    } else {
+        as_i64(floor(x))
+    }
+}
+
 // Whether x is finite and has no fraction.
 pub fn is_whole(x: f64) -> bool
     ensures { λ r. ⌜ r ≡ Helpers.is-whole x ⌝ }

@@ -4,12 +4,9 @@ use borrow.Author.Needs.{needs}
 use Rattle.air_box_c.proofs.air_box_desk_code.Statement.{statement}
 use Rattle.air_box_c.proofs.air_box_desk_code.Tie as tie
 
-desk-code-requires : tie.Need-desk-code-requires
-desk-code-requires c κs = search needs
-
 returns : tie.Need-returns
 returns c =
     rw (toZ-ofZ (c .before .fits .low-airflow), toZ-ofZ (c .before .fits .airflow-sensor), toZ-ofZ (c .before .fits .leaking-damper)) at (c .desk-code .ensures)
 
 pub air-box-desk-code-spec : {M : Type 1} → statement M
-air-box-desk-code-spec = tie.close (tie.spec desk-code-requires returns)
+air-box-desk-code-spec = tie.close (tie.spec (λ c κs. search needs) returns)

@@ -5,15 +5,6 @@ use Rattle.air_box_c.proofs.OpenShut.{open-shut-controller}
 use Rattle.air_box_c.proofs.air_box_fresh.Statement.{statement}
 use Rattle.air_box_c.proofs.air_box_fresh.Tie as tie
 
-fresh-requires : tie.Need-fresh-requires
-fresh-requires c κs = search needs
-
-absent-requires : tie.Need-absent-requires
-absent-requires c κs = search needs
-
-zero-output-requires : tie.Need-zero-output-requires
-zero-output-requires c κs = search needs
-
 returns : tie.Need-returns
 unfolding open-box open-time
 returns c = record {
@@ -23,4 +14,4 @@ returns c = record {
 
 pub air-box-fresh-spec : {M : Type 1} → statement M
 air-box-fresh-spec =
-    tie.close (tie.spec fresh-requires absent-requires zero-output-requires returns)
+    tie.close (tie.spec (λ c κs. search needs) (λ c κs. search needs) (λ c κs. search needs) returns)

@@ -3,20 +3,11 @@ use borrow.Author.Needs.{needs}
 use Rattle.air_box_c.proofs.AirBoxC.number.Statement.{statement}
 use Rattle.air_box_c.proofs.AirBoxC.number.Tie as tie
 
-open-requires : tie.Need-open-requires
-open-requires c κs = search needs
-
-questions-requires : tie.Need-questions-requires
-questions-requires c κs = search needs
-
 enum-told : tie.Need-enum-told
 enum-told c = search needs
 
 enum-known-verdict : tie.Need-enum-known-verdict
 enum-known-verdict c = search needs
-
-number-requires : tie.Need-number-requires
-number-requires c κs = search needs
 
 returns : tie.Need-returns
 returns c =
@@ -30,10 +21,10 @@ pub number-spec : {M : Type 1} → statement M
 number-spec =
     tie.close
     (tie.spec
-    open-requires
-    questions-requires
+    (λ c κs. search needs)
+    (λ c κs. search needs)
     enum-told
     enum-known-verdict
-    number-requires
+    (λ c κs. search needs)
     returns
     returns-2)

@@ -3,11 +3,8 @@ use borrow.Author.Needs.{needs}
 use Rattle.air_box_c.proofs.AirBoxC.refused.Statement.{statement}
 use Rattle.air_box_c.proofs.AirBoxC.refused.Tie as tie
 
-zero-output-requires : tie.Need-zero-output-requires
-zero-output-requires c κs = search needs
-
 returns : tie.Need-returns
 returns c = rw (c .zero-output .ensures)
 
 pub refused-spec : {M : Type 1} → statement M
-refused-spec = tie.close (tie.spec zero-output-requires returns)
+refused-spec = tie.close (tie.spec (λ c κs. search needs) returns)

@@ -9,12 +9,6 @@ enum-known-s c = search needs
 enum-known-s-2 : tie.Need-enum-known-s-2
 enum-known-s-2 c = search needs
 
-number-requires : tie.Need-number-requires
-number-requires c κs = search needs
-
-zero-output-requires : tie.Need-zero-output-requires
-zero-output-requires c κs = search needs
-
 returns : tie.Need-returns
 returns c = rw (c .before .s .given .1)
 
@@ -24,4 +18,4 @@ returns-2 c = rw (c .before .before .before .s2 .given .1, c .zero-output .ensur
 pub shut-spec : {M : Type 1} → statement M
 shut-spec =
     tie.close
-    (tie.spec enum-known-s enum-known-s-2 number-requires zero-output-requires returns returns-2)
+    (tie.spec enum-known-s enum-known-s-2 (λ c κs. search needs) (λ c κs. search needs) returns returns-2)

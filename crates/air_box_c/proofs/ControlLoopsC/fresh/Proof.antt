@@ -5,15 +5,9 @@ use Rattle.air_box_c.specs.Records.{shut-control-loops}
 use Rattle.air_box_c.proofs.ControlLoopsC.fresh.Statement.{statement}
 use Rattle.air_box_c.proofs.ControlLoopsC.fresh.Tie as tie
 
-fresh-requires : tie.Need-fresh-requires
-fresh-requires c κs = search needs
-
-fresh-requires-2 : tie.Need-fresh-requires-2
-fresh-requires-2 c κs = search needs
-
 returns : tie.Need-returns
 unfolding shut-control-loops ofBits
 returns c = rw (c .fresh2 .ensures, c .before .fresh .ensures)
 
 pub fresh-spec : {M : Type 1} → statement M
-fresh-spec = tie.close (tie.spec fresh-requires fresh-requires-2 returns)
+fresh-spec = tie.close (tie.spec (λ c κs. search needs) (λ c κs. search needs) returns)

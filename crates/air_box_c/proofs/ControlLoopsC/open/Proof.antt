@@ -4,22 +4,10 @@ use Rattle.air_box_c.specs.Records.{open-control-loops}
 use Rattle.air_box_c.proofs.ControlLoopsC.open.Statement.{statement}
 use Rattle.air_box_c.proofs.ControlLoopsC.open.Tie as tie
 
-open-requires : tie.Need-open-requires
-open-requires c κs = search needs
-
-open-requires-2 : tie.Need-open-requires-2
-open-requires-2 c κs = search needs
-
-open-requires-3 : tie.Need-open-requires-3
-open-requires-3 c κs = search needs
-
-open-requires-4 : tie.Need-open-requires-4
-open-requires-4 c κs = search needs
-
 returns : tie.Need-returns
 unfolding open-control-loops
 returns c = rw (c .open4 .ensures, c .before .open3 .ensures, c .before .before .open2 .ensures, c .before .before .before .«open» .ensures)
 
 pub open-spec : {M : Type 1} → statement M
 open-spec =
-    tie.close (tie.spec open-requires open-requires-2 open-requires-3 open-requires-4 returns)
+    tie.close (tie.spec (λ c κs. search needs) (λ c κs. search needs) (λ c κs. search needs) (λ c κs. search needs) returns)

@@ -5,12 +5,9 @@ use Rattle.air_box_c.specs.Records.{shut-damper}
 use Rattle.air_box_c.proofs.DamperC.fresh.Statement.{statement}
 use Rattle.air_box_c.proofs.DamperC.fresh.Tie as tie
 
-absent-requires : tie.Need-absent-requires
-absent-requires c κs = search needs
-
 returns : tie.Need-returns
 unfolding shut-damper ofBits
 returns c = rw (c .absent .ensures)
 
 pub fresh-spec : {M : Type 1} → statement M
-fresh-spec = tie.close (tie.spec absent-requires returns)
+fresh-spec = tie.close (tie.spec (λ c κs. search needs) returns)

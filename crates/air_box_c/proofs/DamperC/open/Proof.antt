@@ -4,12 +4,9 @@ use Rattle.air_box_c.specs.Records.{open-damper}
 use Rattle.air_box_c.proofs.DamperC.open.Statement.{statement}
 use Rattle.air_box_c.proofs.DamperC.open.Tie as tie
 
-open-requires : tie.Need-open-requires
-open-requires c κs = search needs
-
 returns : tie.Need-returns
 unfolding open-damper
 returns c = rw (c .«open» .ensures)
 
 pub open-spec : {M : Type 1} → statement M
-open-spec = tie.close (tie.spec open-requires returns)
+open-spec = tie.close (tie.spec (λ c κs. search needs) returns)

@@ -5,12 +5,9 @@ use Rattle.air_box_c.specs.Records.{shut-loop-pi}
 use Rattle.air_box_c.proofs.LoopPiC.fresh.Statement.{statement}
 use Rattle.air_box_c.proofs.LoopPiC.fresh.Tie as tie
 
-absent-requires : tie.Need-absent-requires
-absent-requires c κs = search needs
-
 returns : tie.Need-returns
 unfolding shut-loop-pi ofBits
 returns c = rw (c .absent .ensures)
 
 pub fresh-spec : {M : Type 1} → statement M
-fresh-spec = tie.close (tie.spec absent-requires returns)
+fresh-spec = tie.close (tie.spec (λ c κs. search needs) returns)

@@ -4,12 +4,9 @@ use Rattle.air_box_c.specs.Records.{shut-loop-pi}
 use Rattle.air_box_c.proofs.LoopPiC.shut.Statement.{statement}
 use Rattle.air_box_c.proofs.LoopPiC.shut.Tie as tie
 
-shut-requires : tie.Need-shut-requires
-shut-requires c κs = search needs
-
 returns : tie.Need-returns
 unfolding shut-loop-pi
 returns c = rw (c .shut .ensures)
 
 pub shut-spec : {M : Type 1} → statement M
-shut-spec = tie.close (tie.spec shut-requires returns)
+shut-spec = tie.close (tie.spec (λ c κs. search needs) returns)

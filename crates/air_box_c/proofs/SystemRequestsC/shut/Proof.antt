@@ -4,18 +4,9 @@ use Rattle.air_box_c.specs.Records.{shut-system-requests}
 use Rattle.air_box_c.proofs.SystemRequestsC.shut.Statement.{statement}
 use Rattle.air_box_c.proofs.SystemRequestsC.shut.Tie as tie
 
-shut-requires : tie.Need-shut-requires
-shut-requires c κs = search needs
-
-shut-requires-2 : tie.Need-shut-requires-2
-shut-requires-2 c κs = search needs
-
-shut-requires-3 : tie.Need-shut-requires-3
-shut-requires-3 c κs = search needs
-
 returns : tie.Need-returns
 unfolding shut-system-requests
 returns c = rw (c .shut3 .ensures, c .before .before .before .before .before .shut2 .ensures, c .before .before .before .before .before .before .shut .ensures)
 
 pub shut-spec : {M : Type 1} → statement M
-shut-spec = tie.close (tie.spec shut-requires shut-requires-2 shut-requires-3 returns)
+shut-spec = tie.close (tie.spec (λ c κs. search needs) (λ c κs. search needs) (λ c κs. search needs) returns)

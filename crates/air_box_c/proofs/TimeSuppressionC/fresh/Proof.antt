@@ -5,21 +5,6 @@ use Rattle.air_box_c.specs.Records.{shut-time-suppression}
 use Rattle.air_box_c.proofs.TimeSuppressionC.fresh.Statement.{statement}
 use Rattle.air_box_c.proofs.TimeSuppressionC.fresh.Tie as tie
 
-fresh-requires : tie.Need-fresh-requires
-fresh-requires c κs = search needs
-
-fresh-requires-2 : tie.Need-fresh-requires-2
-fresh-requires-2 c κs = search needs
-
-fresh-requires-3 : tie.Need-fresh-requires-3
-fresh-requires-3 c κs = search needs
-
-fresh-requires-4 : tie.Need-fresh-requires-4
-fresh-requires-4 c κs = search needs
-
-fresh-requires-5 : tie.Need-fresh-requires-5
-fresh-requires-5 c κs = search needs
-
 returns : tie.Need-returns
 unfolding shut-time-suppression ofBits
 returns c = rw (c .fresh5 .ensures, c .before .fresh4 .ensures, c .before .before .fresh3 .ensures, c .before .before .before .fresh2 .ensures, c .before .before .before .before .fresh .ensures)
@@ -28,9 +13,9 @@ pub fresh-spec : {M : Type 1} → statement M
 fresh-spec =
     tie.close
     (tie.spec
-    fresh-requires
-    fresh-requires-2
-    fresh-requires-3
-    fresh-requires-4
-    fresh-requires-5
+    (λ c κs. search needs)
+    (λ c κs. search needs)
+    (λ c κs. search needs)
+    (λ c κs. search needs)
+    (λ c κs. search needs)
     returns)
