@@ -768,25 +768,13 @@ impl AirBoxC {
         }
     }
 
-    // The record after a tick that no question refuses, by what `AirBox::accepted` does.
+    // The record after a tick that no question refuses.
     pub fn accepted(self, tick: Tick) -> AirBoxC
         ensures { λ r. ⌜ r ≡ Records.shut-box (AirBoxes.accepted-tick (Records.open-box self) tick) ⌝ }
     {
         let b = self.open();
-        let start = b.start;
-        let delay_on_init = start.delay_on_init();
-        let input = tick.input;
-        let step = b.state.output(tick.t, input, delay_on_init);
-        let state = step.state;
-        let output = step.output;
-        AirBoxC::shut(AirBoxStep {
-            state: AirBox {
-                state,
-                last_time: OptionalTime::At(tick.t),
-                start,
-            },
-            answer: Answer::Accepted(output),
-        })
+        let step = b.accepted(tick);
+        AirBoxC::shut(step)
     }
 
     // The record after a refused tick: the box as it was, and the number.
@@ -811,7 +799,7 @@ fn start_of(quiet: bool) -> Start
     if quiet { Start::Quiet } else { Start::Plain }
 }
 
-// A box that has had no tick. Its answer is the number 0 and zeros. It does not go by `shut`, which is compiled into the tick where it has no other caller.
+// A box that has had no tick. Its answer is the number 0 and zeros. It does not go by `shut`, which has one caller so that it is compiled into the tick.
 #[no_mangle]
 pub extern "C" fn air_box_fresh(quiet: bool) -> AirBoxC
     ensures { λ r. ⌜ Records.Fresh quiet r ⌝ }
@@ -827,7 +815,7 @@ pub extern "C" fn air_box_fresh(quiet: bool) -> AirBoxC
     }
 }
 
-// One tick of the box at b. A refused tick leaves the box as it was, and its answer says why.
+// One tick of the box at b. A refused tick leaves the box as it was, and its answer says why. Each outcome is stored by itself: where they meet before the store, the old state is copied on every tick.
 #[no_mangle]
 pub extern "C" fn air_box_tick(b: &mut AirBoxC, tick: &Tick)
     ensures { λ _. ⌜ Records.Ticked (now (b .entry)) (now (tick .entry)) (now (b .exit)) ⌝ }
