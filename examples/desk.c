@@ -1,9 +1,9 @@
-/* What the dispatcher reads: runs the ticks on standard input, in the line format of the program `ticks`, and prints a line whenever
-   the desk code changes or a tick is refused: the time of the tick, the code or the number of the refusal, and its meaning. */
+/* What the dispatcher reads: runs the ticks on standard input, in the line format of the program `ticks`, and prints a line at
+   the first accepted tick and whenever the desk code changes: the time of the tick, the code and its meaning.
+   A refused tick has a line with dashes for the time, the number of the refusal and its meaning; a line that is no tick has one too. */
+#define _POSIX_C_SOURCE 200809L
 #include <inttypes.h>
-#include <stdio.h>
-#include <string.h>
-#include "air_box.h"
+#include "tick_line.h"
 
 static const char *meaning(int code) {
     switch (code) {
@@ -15,6 +15,18 @@ static const char *meaning(int code) {
     }
 }
 
+static const char *reason(int number) {
+    switch (number) {
+    case AIR_BOX_NOT_WHOLE_SECONDS: return "the time is no whole number of seconds";
+    case AIR_BOX_TIME_OUT_OF_RANGE: return "the time is out of range";
+    case AIR_BOX_BEFORE_LAST: return "the time is before the last one";
+    case AIR_BOX_TOO_LONG_AFTER_LAST: return "more than 240 seconds after the last one: start the box afresh";
+    case AIR_BOX_TEMPERATURE_OUT_OF_RANGE: return "a temperature is out of range";
+    case AIR_BOX_CO2_OUT_OF_RANGE: return "a CO2 value is out of range";
+    default: return "the airflow is out of range";
+    }
+}
+
 static void print_time(double t) {
     int64_t seconds = (int64_t)t;
     printf("%02" PRId64 ":%02" PRId64 ":%02" PRId64 "  ", seconds / 3600, seconds / 60 % 60, seconds % 60);
@@ -23,17 +35,17 @@ static void print_time(double t) {
 int main(void) {
     AirBox box = air_box_fresh(false);
     const AirBoxOutput *o = &box.answer.output;
+    AirBoxTick tick;
+    TickLine line;
     int shown = -1;
-    uint64_t w[14];
-    double x[10];
-    for (int i = 0; scanf("%16" SCNx64, &w[i]) == 1; i = (i + 1) % 14) {
-        if (i < 13) continue;
-        memcpy(x, w, sizeof x);
-        if (w[0] != 0) box = air_box_fresh(w[0] == 2);
-        AirBoxTick tick = {x[1], {x[2], x[3], x[4], w[13] & 1, w[13] & 2, (int64_t)w[10], x[5], x[6], x[7], x[8], x[9], (int64_t)w[11], (int64_t)w[12], w[13] & 4}};
+    while ((line = next_tick(&box, &tick)) != END_OF_INPUT) {
+        if (line == MALFORMED) {
+            puts("--:--:--      this line is no tick");
+            continue;
+        }
         air_box_tick(&box, &tick);
         if (box.answer.number != AIR_BOX_ACCEPTED) {
-            printf("--:--:--  refused %d\n", box.answer.number);
+            printf("--:--:--  refused %d: %s\n", box.answer.number, reason(box.answer.number));
             continue;
         }
         int code = air_box_desk_code(o->low_airflow_alarm, o->airflow_sensor_alarm, o->leaking_damper_alarm);

@@ -1,6 +1,7 @@
 /* The air box for C and C++. Link with libair_box_c.a, which `rt staticlib air_box_c` writes to target/staticlib.
    Every struct lies as the Rattle record of the same fields; the assertions below hold the sizes and offsets to it.
-   A pointer must point to a whole record of its type. Bytes that are no box, such as a flag that is neither 0 nor 1, are the caller's fault. */
+   A pointer must point to a whole record of its type. Bytes that are no box or no tick, such as a flag
+   that is neither 0 nor 1, and a tick that lies inside the box are the caller's fault. */
 #ifndef AIR_BOX_H
 #define AIR_BOX_H
 
@@ -247,7 +248,7 @@ AIR_BOX_ASSERT(offsetof(AirBoxController, dampers) == 312);
 AIR_BOX_ASSERT(offsetof(AirBoxController, system_requests) == 352);
 AIR_BOX_ASSERT(offsetof(AirBoxController, alarms) == 600);
 
-/* The ten outputs. */
+/* The ten outputs. Airflows in cubic metres a second; the damper command is from 0, closed, to 1, open. */
 typedef struct AirBoxOutput {
     double airflow_setpoint;
     double damper_command;
@@ -291,7 +292,8 @@ AIR_BOX_ASSERT(offsetof(AirBox, last_time) == 824);
 AIR_BOX_ASSERT(offsetof(AirBox, quiet) == 840);
 AIR_BOX_ASSERT(offsetof(AirBox, answer) == 848);
 
-/* The readings and settings of a tick. Temperatures in kelvin, CO2 in parts per million, airflow in cubic metres a second. */
+/* The readings and settings of a tick. Temperatures in kelvin, CO2 in parts per million, airflow in cubic metres a second.
+   Where window_status is false, the outdoor airflows are 0. The mode and both override indices may be any numbers. */
 typedef struct AirBoxInput {
     double zone_temperature;
     double cooling_setpoint;
@@ -336,7 +338,7 @@ AIR_BOX_ASSERT(offsetof(AirBoxTick, input) == 8);
 AirBox air_box_fresh(bool quiet);
 
 /* One tick of the box at `box`: the record then stands for the next box, and `box->answer` is the tick's answer.
-   A refused tick leaves the box as it was; nothing is required of the tick, and the same box and tick always give the same result. */
+   A refused tick leaves the box as it was; a tick may carry any numbers, NaN and infinities among them, and none stops the box. */
 void air_box_tick(AirBox *box, const AirBoxTick *tick);
 
 /* The desk code of the three alarms of an answer's output, by the first rule that fits.

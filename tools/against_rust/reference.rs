@@ -2,24 +2,15 @@
 
 use std::io::{self, BufRead, BufWriter, Write};
 
+mod answer;
 mod stubs;
 mod tick;
 
+use answer::{Answer, Controller};
 use tick::Tick;
 
 // Written by the build: `mod oracle`, `mod plain` and `mod quiet` around the published files.
 include!(env!("PUBLISHED_MODULES"));
-
-/// The ten outputs of an accepted tick, in the order in which they are printed.
-pub struct Answer {
-    floats: [f64; 5],
-    integers: [i64; 5],
-}
-
-/// A published controller with its state, plain or quiet.
-pub trait Controller {
-    fn answer(&mut self, tick: &Tick) -> Answer;
-}
 
 /// A controller and the time of its last accepted tick.
 struct AirBox {

@@ -3,26 +3,15 @@
 
 use std::{env, fs, hint::black_box, time::Instant};
 
-#[path = "tick.rs"]
-mod line;
+mod answer;
 mod stubs;
-mod tick {
-    pub use crate::line::*;
-}
+mod tick;
 
-use line::Tick;
+use answer::{Answer, Controller};
+use tick::Tick;
 
+// Written by the build: `mod oracle`, `mod plain` and `mod quiet` around the published files.
 include!(env!("PUBLISHED_MODULES"));
-
-/// The ten outputs of an accepted tick, as the lines behind the published text fill them in.
-pub struct Answer {
-    floats: [f64; 5],
-    integers: [i64; 5],
-}
-
-pub trait Controller {
-    fn answer(&mut self, tick: &Tick) -> Answer;
-}
 
 /// The tick and the box as `include/air_box.h` lays them out.
 #[repr(C)]
@@ -77,8 +66,14 @@ fn port_tick(tick: &Tick) -> PortTick {
     }
 }
 
-/// The accepted ticks of a file, each with the start word that holds for it.
-fn accepted(text: &[u8]) -> Vec<Tick> {
+/// A tick that is accepted, with the start word that holds for it, as each side takes it.
+struct Accepted {
+    rust: Tick,
+    port: PortTick,
+}
+
+/// The accepted ticks of a file.
+fn accepted(text: &[u8]) -> Vec<Accepted> {
     let mut ticks = Vec::new();
     let (mut last, mut pending) = (None, 1);
     for bytes in text.split(|&b| b == b'\n') {
@@ -91,7 +86,8 @@ fn accepted(text: &[u8]) -> Vec<Tick> {
         }
         last = Some(tick.t);
         tick.start = std::mem::take(&mut pending);
-        ticks.push(tick);
+        let port = port_tick(&tick);
+        ticks.push(Accepted { rust: tick, port });
     }
     ticks
 }
@@ -103,14 +99,14 @@ fn digest(sum: u64, floats: &[f64; 5], integers: &[i64; 5]) -> u64 {
 
 #[inline(never)]
 #[unsafe(no_mangle)]
-fn run_port(ticks: &[Tick]) -> u64 {
+fn run_port(ticks: &[Accepted]) -> u64 {
     let mut sum = 0;
     let mut record = unsafe { air_box_fresh(false) };
     for tick in ticks {
-        if tick.start != 0 {
-            record = unsafe { air_box_fresh(tick.start == 2) };
+        if tick.rust.start != 0 {
+            record = unsafe { air_box_fresh(tick.rust.start == 2) };
         }
-        unsafe { air_box_tick(&mut record, &port_tick(tick)) };
+        unsafe { air_box_tick(&mut record, &tick.port) };
         sum = digest(sum, &record.floats, &record.integers);
     }
     sum
@@ -118,29 +114,33 @@ fn run_port(ticks: &[Tick]) -> u64 {
 
 #[inline(never)]
 #[unsafe(no_mangle)]
-fn run_rust(ticks: &[Tick]) -> u64 {
+fn run_rust(ticks: &[Accepted]) -> u64 {
     let mut sum = 0;
     let mut controller = plain::fresh();
     for tick in ticks {
-        match tick.start {
+        match tick.rust.start {
             1 => controller = plain::fresh(),
             2 => controller = quiet::fresh(),
             _ => {}
         }
-        let answer = controller.answer(tick);
+        let answer = controller.answer(&tick.rust);
         sum = digest(sum, &answer.floats, &answer.integers);
     }
     sum
 }
 
-/// Nanoseconds a tick: the quickest of the rounds.
-fn time(run: fn(&[Tick]) -> u64, ticks: &[Tick], rounds: usize) -> f64 {
-    let quickest = (0..rounds).map(|_| {
-        let start = Instant::now();
-        black_box(run(black_box(ticks)));
-        start.elapsed().as_nanos()
-    });
-    quickest.min().unwrap_or(0) as f64 / ticks.len() as f64
+/// Nanoseconds a tick of one pass.
+fn time(run: fn(&[Accepted]) -> u64, ticks: &[Accepted]) -> f64 {
+    let start = Instant::now();
+    black_box(run(black_box(ticks)));
+    start.elapsed().as_nanos() as f64 / ticks.len() as f64
+}
+
+/// The quickest pass of each side, the two taking turns.
+fn quickest(ticks: &[Accepted], rounds: usize) -> (f64, f64) {
+    (0..rounds).fold((f64::MAX, f64::MAX), |(port, rust), _| {
+        (port.min(time(run_port, ticks)), rust.min(time(run_rust, ticks)))
+    })
 }
 
 fn main() {
@@ -152,7 +152,7 @@ fn main() {
         Some("rust") => println!("{} ticks, digest {:016x}", ticks.len(), run_rust(&ticks)),
         _ => {
             assert_eq!(run_port(&ticks), run_rust(&ticks), "the two sides differ");
-            let (port, rust) = (time(run_port, &ticks, rounds), time(run_rust, &ticks, rounds));
+            let (port, rust) = quickest(&ticks, rounds);
             println!("{} accepted ticks, the same outputs", ticks.len());
             println!("port {port:.0} ns a tick, published Rust {rust:.0} ns a tick, ratio {:.2}", rust / port);
         }

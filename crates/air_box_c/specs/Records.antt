@@ -16,7 +16,8 @@ use Rattle.cooling_only_controller_airflow.specs.declared.SystemRequestsState.{
 use Rattle.cooling_only_controller_airflow.specs.declared.AlarmsState.{AlarmsState}
 use Rattle.cooling_only_controller.specs.declared.ControllerState.{ControllerState}
 use Rattle.cooling_only_controller.specs.declared.ControllerOutput.{ControllerOutput}
-use Rattle.air_box.specs.AirBox.{tick, fresh-box, refusal-number, delay-on-init}
+use Rattle.cooling_only_controller.specs.Controller.{fresh-controller}
+use Rattle.air_box.specs.AirBox.{tick, fresh-box, questions, accepted-tick, refusal-number, delay-on-init}
 use Rattle.air_box.specs.declared.Tick.{Tick}
 use Rattle.air_box.specs.declared.Start.{Start}
 use Rattle.air_box.specs.declared.Start.the-variants.{Plain, Quiet}
@@ -291,18 +292,28 @@ verdict-number (Refuse reason) = refusal-number reason
 abbrev pub refused : AirBoxC → ℕ → AirBoxC
 refused c number = record { state = c .state; «last_time» = c .«last_time»; quiet = c .quiet; answer = record { number = number; output = zero-output } }
 
+-- the record after a tick, by what the questions decide: that of the next box, or the old one, every bit, with the number
+abbrev pub decided-record : Verdict → AirBoxC → Tick → AirBoxC
+decided-record Accept c k = shut-box (accepted-tick (open-box c) k)
+decided-record (Refuse reason) c k = refused c (refusal-number reason)
+
+-- the record of a box that has had no tick
+abbrev pub fresh-record : Bool → AirBoxC
+fresh-record quiet = record { state = shut-controller fresh-controller; «last_time» = shut-time Absent; quiet = quiet; answer = record { number = 0; output = zero-output } }
+
 -- ---- what is promised
 
 -- the record of a box stands for that box
 abbrev pub OpenShut : Type 0
 OpenShut = (s : AirBoxStep) → open-box (shut-box s) ≡ s .state
 
--- the record `after` stands for the box that the tick gives from the box of `before`, and holds the tick's answer
+-- the record `after` stands for the box that the tick gives from the box of `before`, and holds the tick's answer; no bit of it is left open
 pub record Ticked (before : AirBoxC) (k : Tick) (after : AirBoxC) : Type 0 where
   pub next-box : open-box after ≡ tick (open-box before) k .state
   pub next-answer : after .answer ≡ shut-answer (tick (open-box before) k .answer)
+  pub every-bit : after ≡ decided-record (questions (open-time (before .«last_time»)) k) before k
 
--- the record r stands for a box that has had no tick
+-- the record r stands for a box that has had no tick; no bit of it is left open
 pub record Fresh (quiet : Bool) (r : AirBoxC) : Type 0 where
   pub box : open-box r ≡ fresh-box (start-of quiet)
-  pub answer : r .answer ≡ record { number = 0; output = zero-output }
+  pub every-bit : r ≡ fresh-record quiet

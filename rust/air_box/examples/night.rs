@@ -1,10 +1,25 @@
-//! Runs the ticks on standard input, in the line format of the program `ticks`, and prints an answer for each.
-//! Malformed lines are not handled.
+//! Runs the ticks on standard input, in the line format of the program `ticks`, and answers each line as that program does.
 
-use air_box::{AirBox, Input, Tick};
+use air_box::{AirBox, Input, Output, Refusal, Tick};
 use std::io::{self, BufRead, BufWriter, Write};
 
-fn tick_of(words: &[u64]) -> Tick {
+/// A field: sixteen lowercase hex digits.
+fn word(field: &[u8]) -> Option<u64> {
+    let hex = |c: &u8| matches!(c, b'0'..=b'9' | b'a'..=b'f');
+    if field.len() != 16 || !field.iter().all(hex) {
+        return None;
+    }
+    u64::from_str_radix(std::str::from_utf8(field).ok()?, 16).ok()
+}
+
+/// The fourteen fields of a line that is well formed.
+fn words(line: &[u8]) -> Option<[u64; 14]> {
+    let fields: Option<Vec<u64>> = line.split(|&c| c == b' ').map(word).collect();
+    let words: [u64; 14] = fields?.try_into().ok()?;
+    (words[0] <= 2 && words[13] <= 7).then_some(words)
+}
+
+fn tick_of(words: &[u64; 14]) -> Tick {
     let real = |i: usize| f64::from_bits(words[i]);
     let flag = |bit: u64| words[13] & bit != 0;
     Tick {
@@ -28,34 +43,40 @@ fn tick_of(words: &[u64]) -> Tick {
     }
 }
 
+fn print(out: &mut impl Write, answer: Result<Output, Refusal>) -> io::Result<()> {
+    match answer {
+        Err(reason) => writeln!(out, "refused {}", reason as u8),
+        Ok(o) => writeln!(
+            out,
+            "{:016x} {:016x} {:016x} {:016x} {:016x} {} {} {} {} {}",
+            o.airflow_setpoint.to_bits(),
+            o.damper_command.to_bits(),
+            o.adjusted_population_flow.to_bits(),
+            o.adjusted_area_flow.to_bits(),
+            o.minimum_outdoor_airflow.to_bits(),
+            o.zone_temperature_reset_request,
+            o.zone_pressure_reset_request,
+            o.low_airflow_alarm,
+            o.airflow_sensor_alarm,
+            o.leaking_damper_alarm
+        ),
+    }
+}
+
 fn main() -> io::Result<()> {
     let mut out = BufWriter::new(io::stdout().lock());
     let mut air_box = AirBox::plain();
-    for line in io::stdin().lock().lines() {
-        let line = line?;
-        let words: Vec<u64> = line.split(' ').map(|w| u64::from_str_radix(w, 16).expect("hex digits")).collect();
+    for line in io::stdin().lock().split(b'\n') {
+        let Some(words) = words(&line?) else {
+            writeln!(out, "malformed")?;
+            continue;
+        };
         match words[0] {
             1 => air_box = AirBox::plain(),
             2 => air_box = AirBox::quiet(),
             _ => {}
         }
-        match air_box.tick(&tick_of(&words)) {
-            Err(reason) => writeln!(out, "refused {}", reason as u8)?,
-            Ok(o) => writeln!(
-                out,
-                "{:016x} {:016x} {:016x} {:016x} {:016x} {} {} {} {} {}",
-                o.airflow_setpoint.to_bits(),
-                o.damper_command.to_bits(),
-                o.adjusted_population_flow.to_bits(),
-                o.adjusted_area_flow.to_bits(),
-                o.minimum_outdoor_airflow.to_bits(),
-                o.zone_temperature_reset_request,
-                o.zone_pressure_reset_request,
-                o.low_airflow_alarm,
-                o.airflow_sensor_alarm,
-                o.leaking_damper_alarm
-            )?,
-        }
+        print(&mut out, air_box.tick(&tick_of(&words)))?;
     }
     out.flush()
 }

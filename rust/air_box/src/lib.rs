@@ -1,7 +1,7 @@
 //! The proved air box for Rust: a box is made with a plain or a quiet start and ticked in place.
 //! The records that cross the boundary lie as `include/air_box.h` has them; the sizes are held to it below.
 
-use std::mem::size_of;
+use std::mem::{MaybeUninit, size_of};
 
 /// The readings and settings of a tick. Temperatures in kelvin, CO2 in parts per million, airflow in cubic metres a second.
 #[repr(C)]
@@ -67,11 +67,11 @@ struct Answer {
     output: Output,
 }
 
-/// The record that stands for a box: its state, which only the archive reads, and the answer of its last tick.
+/// The record that stands for a box: its state, which only the archive reads and whose padding may be unwritten, and the answer of its last tick.
 #[repr(C)]
 #[derive(Clone, Copy)]
 struct Record {
-    state: [u64; 106],
+    state: [MaybeUninit<u64>; 106],
     answer: Answer,
 }
 

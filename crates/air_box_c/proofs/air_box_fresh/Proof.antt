@@ -9,7 +9,7 @@ returns : tie.Need-returns
 unfolding open-box open-time
 returns c = record {
   box = rw (c .before .absent .ensures, c .before .before .fresh .ensures, open-shut-controller);
-  answer = rw (c .zero-output .ensures);
+  every-bit = rw (c .before .before .fresh .ensures, c .before .absent .ensures, c .zero-output .ensures);
 }
 
 pub air-box-fresh-spec : {M : Type 1} → statement M

@@ -60,7 +60,7 @@ ticks h i v e = rw e
 
 accepted-by : (h : AirBoxC) (i : Tick) (v : Verdict) → questions (open-time (h .«last_time»)) i ≡ v → T (eqb (verdict-number v) 0) → Ticked h i (shut-box (accepted-tick (open-box h) i))
 unfolding shut-box
-accepted-by h i Accept e none = record { next-box = rw (ticks h i Accept e, open-shut); next-answer = rw (ticks h i Accept e) }
+accepted-by h i Accept e none = record { next-box = rw (ticks h i Accept e, open-shut); next-answer = rw (ticks h i Accept e); every-bit = rw e }
 accepted-by h i (Refuse NotWholeSeconds) e none = absurd none
 accepted-by h i (Refuse TimeOutOfRange) e none = absurd none
 accepted-by h i (Refuse BeforeLast) e none = absurd none
@@ -72,7 +72,7 @@ accepted-by h i (Refuse AirflowOutOfRange) e none = absurd none
 refused-by : (h : AirBoxC) (i : Tick) (v : Verdict) → questions (open-time (h .«last_time»)) i ≡ v → T (not (eqb (verdict-number v) 0)) → Ticked h i (refused h (verdict-number v))
 unfolding open-box
 refused-by h i Accept e some = absurd some
-refused-by h i (Refuse reason) e some = record { next-box = rw (ticks h i (Refuse reason) e); next-answer = rw (ticks h i (Refuse reason) e) }
+refused-by h i (Refuse reason) e some = record { next-box = rw (ticks h i (Refuse reason) e); next-answer = rw (ticks h i (Refuse reason) e); every-bit = rw e }
 
 law-accepted : (h : AirBoxC) (i : Tick) (n : ℕ) (r : AirBoxC) → Asked h i n → T (eqb n 0) → Taken h i r → Fin h i r
 law-accepted h i n r asked none taken = rw taken (accepted-by h i (questions (open-time (h .«last_time»)) i) refl (rw asked at none))
