@@ -1,5 +1,6 @@
 // The timing blocks of cooling_only_controller_timing.rs: sampler, unit delay, true delay, timer. A state goes in by value and comes back beside the output.
 ghost use mathlib.Core.Path.{_≡_};
+ghost use Rattle.f64_helpers.specs.F64.{if_then_else_};
 ghost use Rattle.cooling_only_controller_timing.specs.Timing as Timing;
 use cdl_recurrences::OptionalTime;
 
@@ -29,28 +30,23 @@ impl SamplerState {
         }
     }
 
-    // A sample's being due decides both the output and what is stored, so it is asked once.
+    // A sample's being due decides both the output and what is stored, so it is asked once; the state is written out so that no padding is copied.
     pub fn sample(self, t: f64, input: f64, period: f64) -> SamplerStep
         ensures { λ r. ⌜ r ≡ Timing.sampler-sample self t input period ⌝ }
     {
         if self.initialized {
             let next = cdl_recurrences::sample_due(t, self.t0, period, self.last_index);
-            if next.due {
-                let state = SamplerState {
-                    initialized: true,
-                    t0: self.t0,
-                    last_index: next.index,
-                    held: input,
-                };
-                SamplerStep {
-                    state,
-                    output: input,
-                }
-            } else {
-                SamplerStep {
-                    state: self,
-                    output: self.held,
-                }
+            let last_index = last_sampled(next.due, next.index, self.last_index);
+            let held = f64_helpers::choose(next.due, input, self.held);
+            let state = SamplerState {
+                initialized: true,
+                t0: self.t0,
+                last_index,
+                held,
+            };
+            SamplerStep {
+                state,
+                output: held,
             }
         } else {
             let state = first_sampled(t, input, period);
@@ -60,6 +56,13 @@ impl SamplerState {
             }
         }
     }
+}
+
+// The index of the last sample: this one's where it is due.
+fn last_sampled(due: bool, index: i64, last_index: i64) -> i64
+    ensures { λ r. ⌜ r ≡ (if due then index else «last_index») ⌝ }
+{
+    if due { index } else { last_index }
 }
 
 // The first tick starts the grid and is sampled.
@@ -109,23 +112,19 @@ impl UnitDelayState {
     {
         if self.initialized {
             let next = cdl_recurrences::sample_due(t, self.t0, period, self.last_index);
-            if next.due {
-                let state = UnitDelayState {
-                    initialized: true,
-                    t0: self.t0,
-                    last_index: next.index,
-                    held: self.staged,
-                    staged: input,
-                };
-                UnitDelayStep {
-                    state,
-                    output: self.staged,
-                }
-            } else {
-                UnitDelayStep {
-                    state: self,
-                    output: self.held,
-                }
+            let last_index = last_sampled(next.due, next.index, self.last_index);
+            let held = f64_helpers::choose(next.due, self.staged, self.held);
+            let staged = f64_helpers::choose(next.due, input, self.staged);
+            let state = UnitDelayState {
+                initialized: true,
+                t0: self.t0,
+                last_index,
+                held,
+                staged,
+            };
+            UnitDelayStep {
+                state,
+                output: held,
             }
         } else {
             let state = self.first_sample(t, input, period);

@@ -1,30 +1,49 @@
 -- `cooling_only_controller_timing::SamplerState::sample` meets its contract. Assumes nothing.
+use mathlib.Core.Path.{_≡_, refl}
+use mathlib.Core.Bool.{Bool, true, false}
+use lib.IntN.{ℤ}
+use lib.Ieee.{Float}
 use mir.Syntax.{w64}
 use mir.Facts.{toZ-ofZ}
 use Rattle.cdl_recurrences.specs.CdlRecurrences.{sampler-output}
+use Rattle.f64_helpers.specs.F64.{if_then_else_}
+use Rattle.cooling_only_controller_timing.specs.declared.SamplerState.{SamplerState}
 use Rattle.cooling_only_controller_timing.specs.Timing.{sampler-sample, sampler-after-sample}
 use borrow.Author.Needs.{needs}
 use Rattle.cooling_only_controller_timing.proofs.SamplerState.sample.Statement.{statement}
 use Rattle.cooling_only_controller_timing.proofs.SamplerState.sample.Tie as tie
 
+-- a tick after the first: the state of the fields that the code picks is the state that the definition picks
+by-due : (s : SamplerState) (input : Float) (index : ℤ) (due : Bool)
+    → _≡_ {A = SamplerState} (record { initialized = true; t0 = s .t0; «last_index» = if due then index else s .«last_index»; held = if due then input else s .held })
+    (if due then record { initialized = true; t0 = s .t0; «last_index» = index; held = input } else record { initialized = true; t0 = s .t0; «last_index» = s .«last_index»; held = s .held })
+by-due s input index true = refl
+by-due s input index false = refl
+
 returns : tie.Need-returns
 unfolding sampler-sample sampler-after-sample sampler-output
 returns c =
-    let last = toZ-ofZ {w = w64} {z = c .before .before .before .before .before .args .self .«last_index»} (record { sfits = c .before .before .before .struct-told .given .1 .1 .0 .1 }) in
-    let next = rw last at (c .before .before .sample-due .ensures) in
-    rw (c .before .before .before .before .if1 .taken, ← next, c .before .if2 .taken, toZ-ofZ (record { sfits = c .struct-told2 .given .1 .0 .1 }))
+    let d = c .before .before .before .before in
+    let a = d .before .before .before .args in
+    let next = d .sample-due .result in
+    let last = toZ-ofZ {w = w64} {z = a .self .«last_index»} (record { sfits = d .before .struct-told .given .1 .1 .0 .1 }) in
+    let index = toZ-ofZ {w = w64} {z = next .index} (record { sfits = c .before .before .before .struct-told2 .given .1 .0 .1 }) in
+    let kept = toZ-ofZ {w = w64} {z = c .before .last-sampled .result} (record { sfits = c .before .last-sampled .ok }) in
+    let due = rw last at (d .sample-due .ensures) in
+    let is = rw (index, last) at (c .before .last-sampled .ensures) in
+    rw (kept, is, c .choose .ensures, d .before .before .if1 .taken, ← due, by-due (a .self) (a .input) (next .index) (next .due))
 
 returns-2 : tie.Need-returns-2
 unfolding sampler-sample sampler-after-sample sampler-output
-returns-2 c =
-    let last = toZ-ofZ {w = w64} {z = c .before .before .before .before .args .self .«last_index»} (record { sfits = c .before .before .struct-told .given .1 .1 .0 .1 }) in
-    let next = rw last at (c .before .sample-due .ensures) in
-    rw (c .before .before .before .if1 .taken, ← next, c .if2 .left)
-
-returns-3 : tie.Need-returns-3
-unfolding sampler-sample sampler-after-sample sampler-output
-returns-3 c = rw (c .first-sampled .ensures, c .before .if1 .left)
+returns-2 c = rw (c .first-sampled .ensures, c .before .if1 .left)
 
 pub sample-spec : {M : Type 1} → statement M
 sample-spec =
-    tie.close (tie.spec (λ c κs. search needs) (λ c κs. search needs) returns returns-2 returns-3)
+    tie.close
+    (tie.spec
+    (λ c κs. search needs)
+    (λ c κs. search needs)
+    (λ c κs. search needs)
+    (λ c κs. search needs)
+    returns
+    returns-2)
