@@ -1,1 +1,2 @@
 pub mod OpenShut
+pub mod ByParts

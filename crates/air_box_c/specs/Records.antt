@@ -36,8 +36,9 @@ use Rattle.air_box_c.specs.declared.ControlLoopsC.{ControlLoopsC}
 use Rattle.air_box_c.specs.declared.DamperC.{DamperC}
 use Rattle.air_box_c.specs.declared.SystemRequestsC.{SystemRequestsC}
 use Rattle.air_box_c.specs.declared.AlarmsC.{AlarmsC}
-use Rattle.air_box_c.specs.declared.ControllerC.{ControllerC}
+use Rattle.air_box_c.specs.declared.AirflowC.{AirflowC}
 use Rattle.air_box_c.specs.declared.AnswerC.{AnswerC}
+use Rattle.air_box_c.specs.declared.LastC.{LastC}
 use Rattle.air_box_c.specs.declared.AirBoxC.{AirBoxC}
 
 unfoldable pub open-time : OptionalTimeC → OptionalTime
@@ -225,26 +226,24 @@ shut-alarms s = record {
   «leak_delay» = shut-true-delay (s .«leak_delay»);
 }
 
-unfoldable pub open-controller : ControllerC → ControllerState
+abbrev pub open-controller : AirBoxC → ControllerState
 open-controller c = record {
   «time_suppression» = open-time-suppression (c .«time_suppression»);
-  «control_loops» = open-control-loops (c .«control_loops»);
-  setpoints = c .setpoints;
-  «zone_states» = c .«zone_states»;
-  dampers = open-damper (c .dampers);
+  «control_loops» = open-control-loops (c .airflow .«control_loops»);
+  setpoints = c .airflow .setpoints;
+  «zone_states» = c .airflow .«zone_states»;
+  dampers = open-damper (c .airflow .dampers);
   «system_requests» = open-system-requests (c .«system_requests»);
   alarms = open-alarms (c .alarms);
 }
 
-unfoldable pub shut-controller : ControllerState → ControllerC
-shut-controller s = record {
-  «time_suppression» = shut-time-suppression (s .«time_suppression»);
+-- the part of the states from the control loops to the damper
+abbrev pub shut-airflow : ControllerState → AirflowC
+shut-airflow s = record {
   «control_loops» = shut-control-loops (s .«control_loops»);
   setpoints = s .setpoints;
   «zone_states» = s .«zone_states»;
   dampers = shut-damper (s .dampers);
-  «system_requests» = shut-system-requests (s .«system_requests»);
-  alarms = shut-alarms (s .alarms);
 }
 
 -- ---- the box and the answer
@@ -254,7 +253,7 @@ start-of true = Quiet
 start-of false = Plain
 
 unfoldable pub open-box : AirBoxC → AirBox
-open-box c = record { state = open-controller (c .state); «last_time» = open-time (c .«last_time»); start = start-of (c .quiet) }
+open-box c = record { state = open-controller c; «last_time» = open-time (c .last .time); start = start-of (c .last .quiet) }
 
 abbrev pub zero-output : ControllerOutput
 zero-output = record {
@@ -275,13 +274,18 @@ abbrev pub shut-answer : Answer → AnswerC
 shut-answer (Accepted output) = record { number = 0; output = output }
 shut-answer (Refused reason) = record { number = refusal-number reason; output = zero-output }
 
-unfoldable pub shut-box : AirBoxStep → AirBoxC
-shut-box s = record {
-  state = shut-controller (s .state .state);
-  «last_time» = shut-time (s .state .«last_time»);
-  quiet = delay-on-init (s .state .start);
-  answer = shut-answer (s .answer);
+-- the record of a state, with what stands beside it
+abbrev pub shut-state : ControllerState → LastC → AirBoxC
+shut-state s last-part = record {
+  «time_suppression» = shut-time-suppression (s .«time_suppression»);
+  airflow = shut-airflow s;
+  «system_requests» = shut-system-requests (s .«system_requests»);
+  alarms = shut-alarms (s .alarms);
+  last = last-part;
 }
+
+unfoldable pub shut-box : AirBoxStep → AirBoxC
+shut-box s = shut-state (s .state .state) (record { time = shut-time (s .state .«last_time»); quiet = delay-on-init (s .state .start); answer = shut-answer (s .answer) })
 
 -- what the questions decide, as a number
 abbrev pub verdict-number : Verdict → ℕ
@@ -289,8 +293,17 @@ verdict-number Accept = 0
 verdict-number (Refuse reason) = refusal-number reason
 
 -- the record after a refused tick: the box as it was, and the number
+abbrev pub last-refused : LastC → ℕ → LastC
+last-refused c number = record { time = c .time; quiet = c .quiet; answer = record { number = number; output = zero-output } }
+
 abbrev pub refused : AirBoxC → ℕ → AirBoxC
-refused c number = record { state = c .state; «last_time» = c .«last_time»; quiet = c .quiet; answer = record { number = number; output = zero-output } }
+refused c number = record {
+  «time_suppression» = c .«time_suppression»;
+  airflow = c .airflow;
+  «system_requests» = c .«system_requests»;
+  alarms = c .alarms;
+  last = last-refused (c .last) number;
+}
 
 -- the record after a tick, by what the questions decide: that of the next box, or the old one, every bit, with the number
 abbrev pub decided-record : Verdict → AirBoxC → Tick → AirBoxC
@@ -299,7 +312,7 @@ decided-record (Refuse reason) c k = refused c (refusal-number reason)
 
 -- the record of a box that has had no tick
 abbrev pub fresh-record : Bool → AirBoxC
-fresh-record quiet = record { state = shut-controller fresh-controller; «last_time» = shut-time Absent; quiet = quiet; answer = record { number = 0; output = zero-output } }
+fresh-record quiet = shut-state fresh-controller (record { time = shut-time Absent; quiet = quiet; answer = record { number = 0; output = zero-output } })
 
 -- ---- what is promised
 
@@ -310,8 +323,8 @@ OpenShut = (s : AirBoxStep) → open-box (shut-box s) ≡ s .state
 -- the record `after` stands for the box that the tick gives from the box of `before`, and holds the tick's answer; no bit of it is left open
 pub record Ticked (before : AirBoxC) (k : Tick) (after : AirBoxC) : Type 0 where
   pub next-box : open-box after ≡ tick (open-box before) k .state
-  pub next-answer : after .answer ≡ shut-answer (tick (open-box before) k .answer)
-  pub every-bit : after ≡ decided-record (questions (open-time (before .«last_time»)) k) before k
+  pub next-answer : after .last .answer ≡ shut-answer (tick (open-box before) k .answer)
+  pub every-bit : after ≡ decided-record (questions (open-time (before .last .time)) k) before k
 
 -- the record r stands for a box that has had no tick; no bit of it is left open
 pub record Fresh (quiet : Bool) (r : AirBoxC) : Type 0 where

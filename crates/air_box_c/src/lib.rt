@@ -2,25 +2,26 @@
 ghost use mathlib.Core.Path.{_≡_};
 ghost use Rattle.air_box.specs.AirBox as AirBoxes;
 ghost use Rattle.air_box_c.specs.Records as Records;
+ghost use Rattle.air_box_c.specs.Stages as Stages;
 ghost use Rattle.cooling_only_controller.specs.Controller as Controller;
 ghost use Rattle.cooling_only_controller_airflow.specs.Airflow as Airflow;
 ghost use Rattle.cooling_only_controller_conditioning.specs.Conditioning as Conditioning;
 ghost use Rattle.cooling_only_controller_timing.specs.Timing as Timing;
-use air_box::AirBox;
-use air_box::AirBoxStep;
-use air_box::Answer;
-use air_box::Start;
 use air_box::Tick;
 use air_box::Verdict;
 use cdl_recurrences::OptionalTime;
+use cooling_only_controller::AirflowSteps;
 use cooling_only_controller::ControllerOutput;
-use cooling_only_controller::ControllerState;
 use cooling_only_controller_airflow::AlarmsState;
+use cooling_only_controller_airflow::DamperOutput;
 use cooling_only_controller_airflow::DamperState;
+use cooling_only_controller_airflow::SystemRequestOutput;
 use cooling_only_controller_airflow::SystemRequestsState;
+use cooling_only_controller_conditioning::ControlLoopOutput;
 use cooling_only_controller_conditioning::ControlLoopsState;
 use cooling_only_controller_conditioning::LatchState;
 use cooling_only_controller_conditioning::LoopPiState;
+use cooling_only_controller_conditioning::SetpointOutput;
 use cooling_only_controller_conditioning::SetpointsState;
 use cooling_only_controller_conditioning::TimeSuppressionState;
 use cooling_only_controller_conditioning::ZoneStatesState;
@@ -39,7 +40,7 @@ pub struct OptionalTimeC {
 }
 
 impl OptionalTimeC {
-    pub fn absent() -> OptionalTimeC
+    fn absent() -> OptionalTimeC
         ensures { λ r. ⌜ r ≡ Records.shut-time OptionalTime.Absent ⌝ }
     {
         OptionalTimeC {
@@ -48,7 +49,7 @@ impl OptionalTimeC {
         }
     }
 
-    pub fn open(self) -> OptionalTime
+    fn open(self) -> OptionalTime
         ensures { λ r. ⌜ r ≡ Records.open-time self ⌝ }
     {
         if self.present {
@@ -58,7 +59,7 @@ impl OptionalTimeC {
         }
     }
 
-    pub fn shut(s: OptionalTime) -> OptionalTimeC
+    fn shut(s: OptionalTime) -> OptionalTimeC
         ensures { λ r. ⌜ r ≡ Records.shut-time s ⌝ }
     {
         match s {
@@ -84,7 +85,7 @@ pub struct TrueDelayC {
 }
 
 impl TrueDelayC {
-    pub fn fresh() -> TrueDelayC
+    fn fresh() -> TrueDelayC
         ensures { λ r. ⌜ r ≡ Records.shut-true-delay Timing.fresh-true-delay ⌝ }
     {
         let time = OptionalTimeC::absent();
@@ -96,7 +97,7 @@ impl TrueDelayC {
         }
     }
 
-    pub fn open(self) -> TrueDelayState
+    fn open(self) -> TrueDelayState
         ensures { λ r. ⌜ r ≡ Records.open-true-delay self ⌝ }
     {
         let previous_time = self.previous_time.open();
@@ -108,7 +109,7 @@ impl TrueDelayC {
         }
     }
 
-    pub fn shut(s: TrueDelayState) -> TrueDelayC
+    fn shut(s: TrueDelayState) -> TrueDelayC
         ensures { λ r. ⌜ r ≡ Records.shut-true-delay s ⌝ }
     {
         let time = s.previous_time;
@@ -130,7 +131,7 @@ pub struct TimerC {
 }
 
 impl TimerC {
-    pub fn fresh() -> TimerC
+    fn fresh() -> TimerC
         ensures { λ r. ⌜ r ≡ Records.shut-timer Timing.fresh-timer ⌝ }
     {
         let time = OptionalTimeC::absent();
@@ -140,7 +141,7 @@ impl TimerC {
         }
     }
 
-    pub fn open(self) -> TimerState
+    fn open(self) -> TimerState
         ensures { λ r. ⌜ r ≡ Records.open-timer self ⌝ }
     {
         let entry_time = self.entry_time.open();
@@ -150,7 +151,7 @@ impl TimerC {
         }
     }
 
-    pub fn shut(s: TimerState) -> TimerC
+    fn shut(s: TimerState) -> TimerC
         ensures { λ r. ⌜ r ≡ Records.shut-timer s ⌝ }
     {
         let time = s.entry_time;
@@ -179,7 +180,7 @@ pub struct TimeSuppressionC {
 }
 
 impl TimeSuppressionC {
-    pub fn fresh() -> TimeSuppressionC
+    fn fresh() -> TimeSuppressionC
         ensures { λ r. ⌜ r ≡ Records.shut-time-suppression Conditioning.fresh-time-suppression ⌝ }
     {
         let sampler = SamplerState::fresh();
@@ -202,7 +203,7 @@ impl TimeSuppressionC {
         }
     }
 
-    pub fn open(self) -> TimeSuppressionState
+    fn open(self) -> TimeSuppressionState
         ensures { λ r. ⌜ r ≡ Records.open-time-suppression self ⌝ }
     {
         let setpoint_sampler = self.setpoint_sampler;
@@ -226,7 +227,7 @@ impl TimeSuppressionC {
         }
     }
 
-    pub fn shut(s: TimeSuppressionState) -> TimeSuppressionC
+    fn shut(s: TimeSuppressionState) -> TimeSuppressionC
         ensures { λ r. ⌜ r ≡ Records.shut-time-suppression s ⌝ }
     {
         let setpoint_sampler = s.setpoint_sampler;
@@ -260,7 +261,7 @@ pub struct LoopPiC {
 }
 
 impl LoopPiC {
-    pub fn fresh() -> LoopPiC
+    fn fresh() -> LoopPiC
         ensures { λ r. ⌜ r ≡ Records.shut-loop-pi Conditioning.fresh-loop-pi ⌝ }
     {
         let time = OptionalTimeC::absent();
@@ -271,7 +272,7 @@ impl LoopPiC {
         }
     }
 
-    pub fn open(self) -> LoopPiState
+    fn open(self) -> LoopPiState
         ensures { λ r. ⌜ r ≡ Records.open-loop-pi self ⌝ }
     {
         let previous_time = self.previous_time.open();
@@ -282,7 +283,7 @@ impl LoopPiC {
         }
     }
 
-    pub fn shut(s: LoopPiState) -> LoopPiC
+    fn shut(s: LoopPiState) -> LoopPiC
         ensures { λ r. ⌜ r ≡ Records.shut-loop-pi s ⌝ }
     {
         let time = s.previous_time;
@@ -309,7 +310,7 @@ pub struct ControlLoopsC {
 }
 
 impl ControlLoopsC {
-    pub fn fresh() -> ControlLoopsC
+    fn fresh() -> ControlLoopsC
         ensures { λ r. ⌜ r ≡ Records.shut-control-loops Conditioning.fresh-control-loops ⌝ }
     {
         let pi = LoopPiC::fresh();
@@ -326,7 +327,7 @@ impl ControlLoopsC {
         }
     }
 
-    pub fn open(self) -> ControlLoopsState
+    fn open(self) -> ControlLoopsState
         ensures { λ r. ⌜ r ≡ Records.open-control-loops self ⌝ }
     {
         let cooling_pi = self.cooling_pi.open();
@@ -345,7 +346,7 @@ impl ControlLoopsC {
         }
     }
 
-    pub fn shut(s: ControlLoopsState) -> ControlLoopsC
+    fn shut(s: ControlLoopsState) -> ControlLoopsC
         ensures { λ r. ⌜ r ≡ Records.shut-control-loops s ⌝ }
     {
         let cooling_pi = LoopPiC::shut(s.cooling_pi);
@@ -375,7 +376,7 @@ pub struct DamperC {
 }
 
 impl DamperC {
-    pub fn fresh() -> DamperC
+    fn fresh() -> DamperC
         ensures { λ r. ⌜ r ≡ Records.shut-damper Airflow.fresh-damper ⌝ }
     {
         let time = OptionalTimeC::absent();
@@ -387,7 +388,7 @@ impl DamperC {
         }
     }
 
-    pub fn open(self) -> DamperState
+    fn open(self) -> DamperState
         ensures { λ r. ⌜ r ≡ Records.open-damper self ⌝ }
     {
         let previous_time = self.previous_time.open();
@@ -399,7 +400,7 @@ impl DamperC {
         }
     }
 
-    pub fn shut(s: DamperState) -> DamperC
+    fn shut(s: DamperState) -> DamperC
         ensures { λ r. ⌜ r ≡ Records.shut-damper s ⌝ }
     {
         let time = s.previous_time;
@@ -433,7 +434,7 @@ pub struct SystemRequestsC {
 }
 
 impl SystemRequestsC {
-    pub fn fresh() -> SystemRequestsC
+    fn fresh() -> SystemRequestsC
         ensures { λ r. ⌜ r ≡ Records.shut-system-requests Airflow.fresh-system-requests ⌝ }
     {
         let delay = TrueDelayC::fresh();
@@ -456,7 +457,7 @@ impl SystemRequestsC {
         }
     }
 
-    pub fn open(self) -> SystemRequestsState
+    fn open(self) -> SystemRequestsState
         ensures { λ r. ⌜ r ≡ Records.open-system-requests self ⌝ }
     {
         let hot_three_delay = self.hot_three_delay.open();
@@ -484,7 +485,7 @@ impl SystemRequestsC {
         }
     }
 
-    pub fn shut(s: SystemRequestsState) -> SystemRequestsC
+    fn shut(s: SystemRequestsState) -> SystemRequestsC
         ensures { λ r. ⌜ r ≡ Records.shut-system-requests s ⌝ }
     {
         let hot_three_delay = TrueDelayC::shut(s.hot_three_delay);
@@ -530,7 +531,7 @@ pub struct AlarmsC {
 }
 
 impl AlarmsC {
-    pub fn fresh() -> AlarmsC
+    fn fresh() -> AlarmsC
         ensures { λ r. ⌜ r ≡ Records.shut-alarms Airflow.fresh-alarms ⌝ }
     {
         let delay = TrueDelayC::fresh();
@@ -549,7 +550,7 @@ impl AlarmsC {
         }
     }
 
-    pub fn open(self) -> AlarmsState
+    fn open(self) -> AlarmsState
         ensures { λ r. ⌜ r ≡ Records.open-alarms self ⌝ }
     {
         let fan_armed = self.fan_armed.open();
@@ -573,7 +574,7 @@ impl AlarmsC {
         }
     }
 
-    pub fn shut(s: AlarmsState) -> AlarmsC
+    fn shut(s: AlarmsState) -> AlarmsC
         ensures { λ r. ⌜ r ≡ Records.shut-alarms s ⌝ }
     {
         let fan_armed = TrueDelayC::shut(s.fan_armed);
@@ -598,79 +599,28 @@ impl AlarmsC {
     }
 }
 
-// `ControllerState`.
+// The states from the control loops to the damper, which one call of the controller runs.
 #[repr(C)]
-pub struct ControllerC {
-    pub time_suppression: TimeSuppressionC,
+pub struct AirflowC {
     pub control_loops: ControlLoopsC,
     pub setpoints: SetpointsState,
     pub zone_states: ZoneStatesState,
     pub dampers: DamperC,
-    pub system_requests: SystemRequestsC,
-    pub alarms: AlarmsC,
 }
 
-impl ControllerC {
-    pub fn fresh() -> ControllerC
-        ensures { λ r. ⌜ r ≡ Records.shut-controller Controller.fresh-controller ⌝ }
+impl AirflowC {
+    fn fresh() -> AirflowC
+        ensures { λ r. ⌜ r ≡ Records.shut-airflow Controller.fresh-controller ⌝ }
     {
-        let time_suppression = TimeSuppressionC::fresh();
         let control_loops = ControlLoopsC::fresh();
         let setpoints = SetpointsState::fresh();
         let zone_states = ZoneStatesState::fresh();
         let dampers = DamperC::fresh();
-        let system_requests = SystemRequestsC::fresh();
-        let alarms = AlarmsC::fresh();
-        ControllerC {
-            time_suppression,
+        AirflowC {
             control_loops,
             setpoints,
             zone_states,
             dampers,
-            system_requests,
-            alarms,
-        }
-    }
-
-    pub fn open(self) -> ControllerState
-        ensures { λ r. ⌜ r ≡ Records.open-controller self ⌝ }
-    {
-        let time_suppression = self.time_suppression.open();
-        let control_loops = self.control_loops.open();
-        let setpoints = self.setpoints;
-        let zone_states = self.zone_states;
-        let dampers = self.dampers.open();
-        let system_requests = self.system_requests.open();
-        let alarms = self.alarms.open();
-        ControllerState {
-            time_suppression,
-            control_loops,
-            setpoints,
-            zone_states,
-            dampers,
-            system_requests,
-            alarms,
-        }
-    }
-
-    pub fn shut(s: ControllerState) -> ControllerC
-        ensures { λ r. ⌜ r ≡ Records.shut-controller s ⌝ }
-    {
-        let time_suppression = TimeSuppressionC::shut(s.time_suppression);
-        let control_loops = ControlLoopsC::shut(s.control_loops);
-        let setpoints = s.setpoints;
-        let zone_states = s.zone_states;
-        let dampers = DamperC::shut(s.dampers);
-        let system_requests = SystemRequestsC::shut(s.system_requests);
-        let alarms = AlarmsC::shut(s.alarms);
-        ControllerC {
-            time_suppression,
-            control_loops,
-            setpoints,
-            zone_states,
-            dampers,
-            system_requests,
-            alarms,
         }
     }
 }
@@ -680,21 +630,6 @@ impl ControllerC {
 pub struct AnswerC {
     pub number: u8,
     pub output: ControllerOutput,
-}
-
-impl AnswerC {
-    pub fn shut(s: Answer) -> AnswerC
-        ensures { λ r. ⌜ r ≡ Records.shut-answer s ⌝ }
-    {
-        match s {
-            Answer::Accepted(output) => AnswerC { number: 0, output },
-            Answer::Refused(reason) => {
-                let number = reason.number();
-                let output = zero_output();
-                AnswerC { number, output }
-            }
-        }
-    }
 }
 
 fn zero_output() -> ControllerOutput
@@ -714,117 +649,298 @@ fn zero_output() -> ControllerOutput
     }
 }
 
-// `AirBox`, and beside it the answer of the last tick.
+// Beside the state: the time of the last accepted tick, the start choice, and the answer of the last tick.
 #[repr(C)]
-pub struct AirBoxC {
-    pub state: ControllerC,
-    pub last_time: OptionalTimeC,
+pub struct LastC {
+    pub time: OptionalTimeC,
     pub quiet: bool,
     pub answer: AnswerC,
 }
 
-impl AirBoxC {
-    pub fn open(self) -> AirBox
-        ensures { λ r. ⌜ r ≡ Records.open-box self ⌝ }
-    {
-        let state = self.state.open();
-        let last_time = self.last_time.open();
-        let start = start_of(self.quiet);
-        AirBox {
-            state,
-            last_time,
-            start,
-        }
-    }
+// `AirBox`, with the answer of its last tick, in the order in which a tick goes through it.
+#[repr(C)]
+pub struct AirBoxC {
+    pub time_suppression: TimeSuppressionC,
+    pub airflow: AirflowC,
+    pub system_requests: SystemRequestsC,
+    pub alarms: AlarmsC,
+    pub last: LastC,
+}
 
-    pub fn shut(s: AirBoxStep) -> AirBoxC
-        ensures { λ r. ⌜ r ≡ Records.shut-box s ⌝ }
-    {
-        let b = s.state;
-        let state = ControllerC::shut(b.state);
-        let time = b.last_time;
-        let last_time = OptionalTimeC::shut(time);
-        let start = b.start;
-        let quiet = start.delay_on_init();
-        let last = s.answer;
-        let answer = AnswerC::shut(last);
-        AirBoxC {
-            state,
-            last_time,
-            quiet,
-            answer,
-        }
-    }
+// A tick is run part by part, each part read, run and stored in its place: a record that is copied out and in as a whole costs more than the controller does. What a stage knows of those before it is handed on.
 
-    // The number of the first question that gets a "no", and 0 where none does.
-    pub fn number(self, tick: Tick) -> u8
-        ensures { λ r. ⌜ r ≡ Records.verdict-number (AirBoxes.questions (Records.open-time (self .«last_time»)) tick) ⌝ }
+// The number of the first question that gets a "no", 0 where none does, and what the stages begin with.
+pub struct Asked {
+    pub number: u8,
+    pub next: Begun,
+}
+
+pub struct Begun {
+    pub tick: Tick,
+    pub quiet: bool,
+}
+
+impl LastC {
+    fn ask(self, tick: Tick) -> Asked
+        ensures { λ r. ⌜ r ≡ Stages.asked self tick ⌝ }
     {
-        let last_time = self.last_time.open();
+        let last_time = self.time.open();
         let verdict = air_box::questions(last_time, tick);
-        match verdict {
-            Verdict::Accept => 0,
-            Verdict::Refuse(reason) => reason.number(),
+        let number = verdict_number(verdict);
+        Asked {
+            number,
+            next: Begun {
+                tick,
+                quiet: self.quiet,
+            },
         }
     }
 
-    // The record after a tick that no question refuses.
-    pub fn accepted(self, tick: Tick) -> AirBoxC
-        ensures { λ r. ⌜ r ≡ Records.shut-box (AirBoxes.accepted-tick (Records.open-box self) tick) ⌝ }
+    fn accepted(self, done: Alarmed) -> LastC
+        ensures { λ r. ⌜ r ≡ Stages.last-accepted self done ⌝ }
     {
-        let b = self.open();
-        let step = b.accepted(tick);
-        AirBoxC::shut(step)
+        let output = done.output;
+        LastC {
+            time: OptionalTimeC {
+                present: true,
+                time: done.t,
+            },
+            quiet: self.quiet,
+            answer: AnswerC { number: 0, output },
+        }
     }
 
-    // The record after a refused tick: the box as it was, and the number.
-    pub fn refused(self, number: u8) -> AirBoxC
-        ensures { λ r. ⌜ r ≡ Records.refused self number ⌝ }
+    fn refused(self, number: u8) -> LastC
+        ensures { λ r. ⌜ r ≡ Records.last-refused self number ⌝ }
     {
-        let state = self.state;
-        let last_time = self.last_time;
+        let time = self.time;
         let output = zero_output();
-        AirBoxC {
-            state,
-            last_time,
+        LastC {
+            time,
             quiet: self.quiet,
             answer: AnswerC { number, output },
         }
     }
 }
 
-fn start_of(quiet: bool) -> Start
-    ensures { λ r. ⌜ r ≡ Records.start-of quiet ⌝ }
+fn verdict_number(verdict: Verdict) -> u8
+    ensures { λ r. ⌜ r ≡ Records.verdict-number verdict ⌝ }
 {
-    if quiet { Start::Quiet } else { Start::Plain }
+    match verdict {
+        Verdict::Accept => 0,
+        Verdict::Refuse(reason) => reason.number(),
+    }
 }
 
-// A box that has had no tick. Its answer is the number 0 and zeros. It does not go by `shut`, which has one caller so that it is compiled into the tick.
+pub struct SuppressionTick {
+    pub state: TimeSuppressionC,
+    pub next: Suppressed,
+}
+
+pub struct Suppressed {
+    pub begun: Begun,
+    pub after_suppression: bool,
+}
+
+impl TimeSuppressionC {
+    fn tick(self, begun: Begun) -> SuppressionTick
+        ensures { λ r. ⌜ r ≡ Stages.suppression-tick self begun ⌝ }
+    {
+        let tick = begun.tick;
+        let input = tick.input;
+        let s = self.open();
+        let step = s.output(tick.t, input.cooling_setpoint, input.zone_temperature);
+        let state = TimeSuppressionC::shut(step.state);
+        SuppressionTick {
+            state,
+            next: Suppressed {
+                begun,
+                after_suppression: step.output,
+            },
+        }
+    }
+}
+
+pub struct AirflowTick {
+    pub state: AirflowC,
+    pub next: Aired,
+}
+
+pub struct Aired {
+    pub suppressed: Suppressed,
+    pub loops: ControlLoopOutput,
+    pub flows: SetpointOutput,
+    pub damper: DamperOutput,
+}
+
+impl AirflowC {
+    fn tick(self, suppressed: Suppressed) -> AirflowTick
+        ensures { λ r. ⌜ r ≡ Stages.airflow-tick self suppressed ⌝ }
+    {
+        let begun = suppressed.begun;
+        let tick = begun.tick;
+        let input = tick.input;
+        let control_loops = self.control_loops.open();
+        let setpoints = self.setpoints;
+        let zone_states = self.zone_states;
+        let dampers = self.dampers.open();
+        let steps = cooling_only_controller::airflow_steps(
+            tick.t,
+            input,
+            control_loops,
+            setpoints,
+            zone_states,
+            dampers,
+        );
+        airflow_tick(suppressed, steps)
+    }
+}
+
+// The part after the tick and what is handed on, put together.
+fn airflow_tick(suppressed: Suppressed, steps: AirflowSteps) -> AirflowTick
+    ensures { λ r. ⌜ r ≡ Stages.airflow-ticked suppressed steps ⌝ }
+{
+    let loops = steps.loops;
+    let flows = steps.setpoints;
+    let zone = steps.zone;
+    let damper = steps.damper;
+    let control_loops = ControlLoopsC::shut(loops.state);
+    let setpoints = flows.state;
+    let zone_states = zone.state;
+    let dampers = DamperC::shut(damper.state);
+    let loops_output = loops.output;
+    let flows_output = flows.output;
+    let damper_output = damper.output;
+    AirflowTick {
+        state: AirflowC {
+            control_loops,
+            setpoints,
+            zone_states,
+            dampers,
+        },
+        next: Aired {
+            suppressed,
+            loops: loops_output,
+            flows: flows_output,
+            damper: damper_output,
+        },
+    }
+}
+
+pub struct RequestsTick {
+    pub state: SystemRequestsC,
+    pub next: Requested,
+}
+
+pub struct Requested {
+    pub aired: Aired,
+    pub requests: SystemRequestOutput,
+}
+
+impl SystemRequestsC {
+    fn tick(self, aired: Aired) -> RequestsTick
+        ensures { λ r. ⌜ r ≡ Stages.requests-tick self aired ⌝ }
+    {
+        let suppressed = aired.suppressed;
+        let begun = suppressed.begun;
+        let tick = begun.tick;
+        let input = tick.input;
+        let loops = aired.loops;
+        let damper = aired.damper;
+        let s = self.open();
+        let wanted = cooling_only_controller::request_input(
+            input,
+            suppressed.after_suppression,
+            loops,
+            damper,
+        );
+        let step = s.output(tick.t, wanted, begun.quiet);
+        let state = SystemRequestsC::shut(step.state);
+        let requests = step.output;
+        RequestsTick {
+            state,
+            next: Requested { aired, requests },
+        }
+    }
+}
+
+pub struct AlarmsTick {
+    pub state: AlarmsC,
+    pub next: Alarmed,
+}
+
+pub struct Alarmed {
+    pub t: f64,
+    pub output: ControllerOutput,
+}
+
+impl AlarmsC {
+    fn tick(self, requested: Requested) -> AlarmsTick
+        ensures { λ r. ⌜ r ≡ Stages.alarms-tick self requested ⌝ }
+    {
+        let aired = requested.aired;
+        let suppressed = aired.suppressed;
+        let begun = suppressed.begun;
+        let tick = begun.tick;
+        let input = tick.input;
+        let damper = aired.damper;
+        let flows = aired.flows;
+        let requests = requested.requests;
+        let s = self.open();
+        let wanted = cooling_only_controller::alarm_input(input, damper);
+        let step = s.output(tick.t, wanted, begun.quiet);
+        let state = AlarmsC::shut(step.state);
+        let alarms = step.output;
+        let output = cooling_only_controller::controller_output(damper, flows, requests, alarms);
+        AlarmsTick {
+            state,
+            next: Alarmed { t: tick.t, output },
+        }
+    }
+}
+
+// A box that has had no tick. Its answer is the number 0 and zeros. No part goes by `shut`, which has one caller so that it is compiled into the tick.
 #[no_mangle]
 pub extern "C" fn air_box_fresh(quiet: bool) -> AirBoxC
     ensures { λ r. ⌜ Records.Fresh quiet r ⌝ }
 {
-    let state = ControllerC::fresh();
-    let last_time = OptionalTimeC::absent();
+    let time_suppression = TimeSuppressionC::fresh();
+    let airflow = AirflowC::fresh();
+    let system_requests = SystemRequestsC::fresh();
+    let alarms = AlarmsC::fresh();
+    let time = OptionalTimeC::absent();
     let output = zero_output();
     AirBoxC {
-        state,
-        last_time,
-        quiet,
-        answer: AnswerC { number: 0, output },
+        time_suppression,
+        airflow,
+        system_requests,
+        alarms,
+        last: LastC {
+            time,
+            quiet,
+            answer: AnswerC { number: 0, output },
+        },
     }
 }
 
-// One tick of the box at b. A refused tick leaves the box as it was, and its answer says why. Each outcome is stored by itself: where they meet before the store, the old state is copied on every tick.
+// One tick of the box at b. A refused tick leaves the box as it was, and its answer says why.
 #[no_mangle]
 pub extern "C" fn air_box_tick(b: &mut AirBoxC, tick: &Tick)
     ensures { λ _. ⌜ Records.Ticked (now (b .entry)) (now (tick .entry)) (now (b .exit)) ⌝ }
 {
-    let number = b.number(*tick);
-    if number == 0 {
-        *b = b.accepted(*tick);
+    let asked = b.last.ask(*tick);
+    if asked.number == 0 {
+        let suppressed = b.time_suppression.tick(asked.next);
+        b.time_suppression = suppressed.state;
+        let aired = b.airflow.tick(suppressed.next);
+        b.airflow = aired.state;
+        let requested = b.system_requests.tick(aired.next);
+        b.system_requests = requested.state;
+        let alarmed = b.alarms.tick(requested.next);
+        b.alarms = alarmed.state;
+        b.last = b.last.accepted(alarmed.next);
     } else {
-        *b = b.refused(number);
+        b.last = b.last.refused(asked.number);
     }
 }
 

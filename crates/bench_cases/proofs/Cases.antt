@@ -6,7 +6,7 @@ use Rattle.cdl_recurrences.specs.CdlRecurrences.{buildings-line, clamp, hystere
 use Rattle.cooling_only_controller_timing.specs.Timing.{sampler-after-sample, sampler-sample, unit-delay-first-sample, unit-delay-sample, true-delay, timer-elapsed}
 use Rattle.cooling_only_controller_conditioning.specs.Conditioning.{latch, setpoint-change, suppression-window, time-suppression, loop-pi, control-loop, control-loops, setpoints, active-airflow, zone-states}
 use Rattle.cooling_only_controller_airflow.specs.Airflow.{airflow-override, damper-override, chosen-airflow-setpoint, damper, temperature-request, pressure-request, system-requests, low-airflow-alarm, sensor-leak-alarms, alarms}
-use Rattle.cooling_only_controller.specs.Controller.{controller-output}
+use Rattle.cooling_only_controller.specs.Controller.{airflow-steps, controller-output}
 use Rattle.air_box.specs.AirBox.{questions, accepted-tick, tick}
 use Rattle.bench_cases.specs.BenchCases.{BenchCasesHold}
 
@@ -16,5 +16,5 @@ unfolding round neg add sub mul div lt le eq isNan toSigned ofInt floor ceil abs
     sampler-after-sample sampler-sample unit-delay-first-sample unit-delay-sample true-delay timer-elapsed
     latch setpoint-change suppression-window time-suppression loop-pi control-loop control-loops setpoints active-airflow zone-states
     airflow-override damper-override chosen-airflow-setpoint damper temperature-request pressure-request system-requests low-airflow-alarm sensor-leak-alarms alarms
-    controller-output questions accepted-tick tick
+    airflow-steps controller-output questions accepted-tick tick
 bench-cases-hold = (refl, (refl, (refl, (refl, (refl, (refl, (refl, (refl, (refl, (refl, (refl, (refl, (refl, (refl, (refl, (refl, (refl, (refl, (refl, (refl, (refl, (refl, (refl, (refl, (refl, (refl, (refl, (refl, (refl, (refl, (refl, (refl, (refl, (refl, (refl, (refl, (refl, (refl, (refl, (refl, (refl, (refl, (refl, (refl, (refl, (refl, (refl, (refl, (refl, (refl, (refl, (refl, (refl, (refl, tt))))))))))))))))))))))))))))))))))))))))))))))))))))))

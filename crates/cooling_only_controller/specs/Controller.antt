@@ -5,22 +5,23 @@ use lib.Ieee.{Float}
 use Rattle.cooling_only_controller_conditioning.specs.Conditioning.{time-suppression, control-loops, setpoints, active-airflow, zone-states, fresh-time-suppression, fresh-control-loops, fresh-setpoints, fresh-zone-states}
 use Rattle.cooling_only_controller_conditioning.specs.declared.TimeSuppressionStep.{TimeSuppressionStep}
 use Rattle.cooling_only_controller_conditioning.specs.declared.ControlLoopOutput.{ControlLoopOutput}
-use Rattle.cooling_only_controller_conditioning.specs.declared.ControlLoopsStep.{ControlLoopsStep}
-use Rattle.cooling_only_controller_conditioning.specs.declared.SetpointsStep.{SetpointsStep}
-use Rattle.cooling_only_controller_conditioning.specs.declared.ZoneStatesStep.{ZoneStatesStep}
+use Rattle.cooling_only_controller_conditioning.specs.declared.ControlLoopsState.{ControlLoopsState}
+use Rattle.cooling_only_controller_conditioning.specs.declared.SetpointsState.{SetpointsState}
+use Rattle.cooling_only_controller_conditioning.specs.declared.ZoneStatesState.{ZoneStatesState}
 use Rattle.cooling_only_controller_conditioning.specs.declared.SetpointInput.{SetpointInput}
 use Rattle.cooling_only_controller_conditioning.specs.declared.SetpointOutput.{SetpointOutput}
 use Rattle.cooling_only_controller_conditioning.specs.declared.ActiveAirflowOutput.{ActiveAirflowOutput}
 use Rattle.cooling_only_controller_airflow.specs.Airflow.{damper, system-requests, alarms, fresh-damper, fresh-system-requests, fresh-alarms}
 use Rattle.cooling_only_controller_airflow.specs.declared.DamperInput.{DamperInput}
 use Rattle.cooling_only_controller_airflow.specs.declared.DamperOutput.{DamperOutput}
-use Rattle.cooling_only_controller_airflow.specs.declared.DamperStep.{DamperStep}
+use Rattle.cooling_only_controller_airflow.specs.declared.DamperState.{DamperState}
 use Rattle.cooling_only_controller_airflow.specs.declared.SystemRequestsStep.{SystemRequestsStep}
 use Rattle.cooling_only_controller_airflow.specs.declared.AlarmsStep.{AlarmsStep}
 use Rattle.cooling_only_controller_airflow.specs.declared.SystemRequestInput.{SystemRequestInput}
 use Rattle.cooling_only_controller_airflow.specs.declared.SystemRequestOutput.{SystemRequestOutput}
 use Rattle.cooling_only_controller_airflow.specs.declared.AlarmInput.{AlarmInput}
 use Rattle.cooling_only_controller_airflow.specs.declared.AlarmOutput.{AlarmOutput}
+use Rattle.cooling_only_controller.specs.declared.AirflowSteps.{AirflowSteps}
 use Rattle.cooling_only_controller.specs.declared.ControllerInput.{ControllerInput}
 use Rattle.cooling_only_controller.specs.declared.ControllerOutput.{ControllerOutput}
 use Rattle.cooling_only_controller.specs.declared.ControllerState.{ControllerState}
@@ -107,31 +108,37 @@ outputs damper setpoints requests alarms =
     }
 
 -- the next state and the ten outputs, from the stages' steps
-abbrev pub controller-step : TimeSuppressionStep → ControlLoopsStep → SetpointsStep → ZoneStatesStep → DamperStep → SystemRequestsStep → AlarmsStep → ControllerStep
-controller-step after-suppression loops setpoints zone-state damper requests alarms =
+abbrev pub controller-step : TimeSuppressionStep → AirflowSteps → SystemRequestsStep → AlarmsStep → ControllerStep
+controller-step after-suppression air requests alarms =
     record {
       state = record {
         «time_suppression» = after-suppression .state;
-        «control_loops» = loops .state;
-        setpoints = setpoints .state;
-        «zone_states» = zone-state .state;
-        dampers = damper .state;
+        «control_loops» = air .loops .state;
+        setpoints = air .setpoints .state;
+        «zone_states» = air .zone .state;
+        dampers = air .damper .state;
         «system_requests» = requests .state;
         alarms = alarms .state;
       };
-      output = outputs (damper .output) (setpoints .output) (requests .output) (alarms .output);
+      output = outputs (air .damper .output) (air .setpoints .output) (requests .output) (alarms .output);
     }
 
--- Rust `ControllerState::output`; G36.TerminalUnits.CoolingOnly.Controller. `delay-on-init` is that of the nine true delays of system requests and alarms; in the Rust it is false.
+-- Rust `ControllerState::output`; G36.TerminalUnits.CoolingOnly.Controller, in two pieces: the stages from the control loops to the damper, and the whole.
 -- Each let holds a stage's step: its `.output` is the Rust's value of that name, its `.state` the stage afterwards.
+unfoldable pub airflow-steps : Float → ControllerInput → ControlLoopsState → SetpointsState → ZoneStatesState → DamperState → AirflowSteps
+airflow-steps t input control-loops-state setpoints-state zone-states-state dampers-state =
+    let loops = control-loops control-loops-state t (input .«cooling_setpoint») (input .«zone_temperature») (input .«heating_setpoint») in
+    let setpoints-step = setpoints setpoints-state (setpoint-input input) in
+    let active = active-airflow (input .«operating_mode») (setpoints-step .output .«occupied_minimum_flow») in
+    let zone-state = zone-states zone-states-state (loops .output .heating) (loops .output .cooling) in
+    let damper-step = damper dampers-state t (damper-input input (loops .output) active (zone-state .output)) in
+    record { loops = loops; setpoints = setpoints-step; zone = zone-state; damper = damper-step }
+
+-- `delay-on-init` is that of the nine true delays of system requests and alarms; in the Rust it is false.
 unfoldable pub controller-output : ControllerState → Float → ControllerInput → Bool → ControllerStep
 controller-output s t input delay-on-init =
     let after-suppression = time-suppression (s .«time_suppression») t (input .«cooling_setpoint») (input .«zone_temperature») in
-    let loops = control-loops (s .«control_loops») t (input .«cooling_setpoint») (input .«zone_temperature») (input .«heating_setpoint») in
-    let setpoints-step = setpoints (s .setpoints) (setpoint-input input) in
-    let active = active-airflow (input .«operating_mode») (setpoints-step .output .«occupied_minimum_flow») in
-    let zone-state = zone-states (s .«zone_states») (loops .output .heating) (loops .output .cooling) in
-    let damper-step = damper (s .dampers) t (damper-input input (loops .output) active (zone-state .output)) in
-    let requests = system-requests (s .«system_requests») t (request-input input (after-suppression .output) (loops .output) (damper-step .output)) delay-on-init in
-    let alarms-step = alarms (s .alarms) t (alarm-input input (damper-step .output)) delay-on-init in
-    controller-step after-suppression loops setpoints-step zone-state damper-step requests alarms-step
+    let air = airflow-steps t input (s .«control_loops») (s .setpoints) (s .«zone_states») (s .dampers) in
+    let requests = system-requests (s .«system_requests») t (request-input input (after-suppression .output) (air .loops .output) (air .damper .output)) delay-on-init in
+    let alarms-step = alarms (s .alarms) t (alarm-input input (air .damper .output)) delay-on-init in
+    controller-step after-suppression air requests alarms-step

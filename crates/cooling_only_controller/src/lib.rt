@@ -73,6 +73,14 @@ pub struct ControllerStep {
     pub output: ControllerOutput,
 }
 
+// What the stages from the control loops to the damper give.
+pub struct AirflowSteps {
+    pub loops: ControlLoopsStep,
+    pub setpoints: SetpointsStep,
+    pub zone: ZoneStatesStep,
+    pub damper: DamperStep,
+}
+
 impl ControllerState {
     pub fn fresh() -> ControllerState
         ensures { λ r. ⌜ r ≡ Controller.fresh-controller ⌝ }
@@ -101,56 +109,80 @@ impl ControllerState {
     {
         let suppressed = self.time_suppression
             .output(t, input.cooling_setpoint, input.zone_temperature);
-        let loops = self.control_loops.output(
-            t,
-            input.cooling_setpoint,
-            input.zone_temperature,
-            input.heating_setpoint,
-        );
-        let loop_output = loops.output;
-        let setpoints = self.setpoints.output(setpoint_input(input));
-        let flows = setpoints.output;
-        let active = cooling_only_controller_conditioning::active_airflow(
-            input.operating_mode,
-            flows.occupied_minimum_flow,
-        );
-        let zone = self.zone_states
-            .output(loop_output.heating, loop_output.cooling);
-        let damper = self.dampers
-            .output(t, damper_input(input, loop_output, active, zone.output));
-        let air = damper.output;
-        let wanted = request_input(input, suppressed.output, loop_output, air);
+        let loops = self.control_loops;
+        let setpoints = self.setpoints;
+        let zone = self.zone_states;
+        let dampers = self.dampers;
+        let air = airflow_steps(t, input, loops, setpoints, zone, dampers);
+        let loop_output = air.loops.output;
+        let flow = air.damper.output;
+        let wanted = request_input(input, suppressed.output, loop_output, flow);
         let requests = self.system_requests.output(t, wanted, delay_on_init);
         let alarms = self.alarms
-            .output(t, alarm_input(input, air), delay_on_init);
-        controller_step(suppressed, loops, setpoints, zone, damper, requests, alarms)
+            .output(t, alarm_input(input, flow), delay_on_init);
+        controller_step(suppressed, air, requests, alarms)
+    }
+}
+
+// The stages from the control loops to the damper, each fed by those before it.
+pub fn airflow_steps(
+    t: f64,
+    input: ControllerInput,
+    control_loops: ControlLoopsState,
+    setpoints: SetpointsState,
+    zone_states: ZoneStatesState,
+    dampers: DamperState,
+) -> AirflowSteps
+    ensures { λ r. ⌜ r ≡ Controller.airflow-steps t input «control_loops» setpoints «zone_states» dampers ⌝ }
+{
+    let loops = control_loops.output(
+        t,
+        input.cooling_setpoint,
+        input.zone_temperature,
+        input.heating_setpoint,
+    );
+    let loop_output = loops.output;
+    let flows = setpoints.output(setpoint_input(input));
+    let minimum = flows.output;
+    let active = cooling_only_controller_conditioning::active_airflow(
+        input.operating_mode,
+        minimum.occupied_minimum_flow,
+    );
+    let zone = zone_states.output(loop_output.heating, loop_output.cooling);
+    let damper = dampers.output(t, damper_input(input, loop_output, active, zone.output));
+    AirflowSteps {
+        loops,
+        setpoints: flows,
+        zone,
+        damper,
     }
 }
 
 // The next state and the ten outputs, put together from the stages' steps.
 fn controller_step(
     suppressed: TimeSuppressionStep,
-    loops: ControlLoopsStep,
-    setpoints: SetpointsStep,
-    zone: ZoneStatesStep,
-    damper: DamperStep,
+    air: AirflowSteps,
     requests: SystemRequestsStep,
     alarms: AlarmsStep,
 ) -> ControllerStep
-    ensures { λ r. ⌜ r ≡ Controller.controller-step suppressed loops setpoints zone damper requests alarms ⌝ }
+    ensures { λ r. ⌜ r ≡ Controller.controller-step suppressed air requests alarms ⌝ }
 {
     let time_suppression = suppressed.state;
+    let loops = air.loops;
+    let setpoints = air.setpoints;
+    let zone = air.zone;
+    let damper = air.damper;
     let control_loops = loops.state;
     let setpoints_state = setpoints.state;
     let zone_states = zone.state;
     let dampers = damper.state;
     let system_requests = requests.state;
     let alarms_state = alarms.state;
-    let air = damper.output;
+    let flow = damper.output;
     let flows = setpoints.output;
     let levels = requests.output;
     let alarm = alarms.output;
-    let output = controller_output(air, flows, levels, alarm);
+    let output = controller_output(flow, flows, levels, alarm);
     ControllerStep {
         state: ControllerState {
             time_suppression,
@@ -201,7 +233,7 @@ fn damper_input(
     }
 }
 
-fn request_input(
+pub fn request_input(
     input: ControllerInput,
     after_suppression: bool,
     loops: ControlLoopOutput,
@@ -220,7 +252,7 @@ fn request_input(
     }
 }
 
-fn alarm_input(input: ControllerInput, damper: DamperOutput) -> AlarmInput
+pub fn alarm_input(input: ControllerInput, damper: DamperOutput) -> AlarmInput
     ensures { λ r. ⌜ r ≡ Controller.alarm-input input damper ⌝ }
 {
     AlarmInput {
@@ -232,7 +264,7 @@ fn alarm_input(input: ControllerInput, damper: DamperOutput) -> AlarmInput
     }
 }
 
-fn controller_output(
+pub fn controller_output(
     damper: DamperOutput,
     setpoints: SetpointOutput,
     requests: SystemRequestOutput,

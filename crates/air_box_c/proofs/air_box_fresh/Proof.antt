@@ -1,6 +1,8 @@
 -- `air_box_c::air_box_fresh` meets its contract. Assumes nothing.
 use borrow.Author.Needs.{needs}
-use Rattle.air_box_c.specs.Records.{open-box, open-time}
+use Rattle.cdl_recurrences.specs.declared.OptionalTime.the-variants.{Absent}
+use Rattle.cooling_only_controller.specs.Controller.{fresh-controller}
+use Rattle.air_box_c.specs.Records.{open-box, open-time, start-of, fresh-record}
 use Rattle.air_box_c.proofs.OpenShut.{open-shut-controller}
 use Rattle.air_box_c.proofs.air_box_fresh.Statement.{statement}
 use Rattle.air_box_c.proofs.air_box_fresh.Tie as tie
@@ -8,10 +10,19 @@ use Rattle.air_box_c.proofs.air_box_fresh.Tie as tie
 returns : tie.Need-returns
 unfolding open-box open-time
 returns c = record {
-  box = rw (c .before .absent .ensures, c .before .before .fresh .ensures, open-shut-controller);
-  every-bit = rw (c .before .before .fresh .ensures, c .before .absent .ensures, c .zero-output .ensures);
+  box = rw (c .before .absent .ensures, c .before .before .fresh4 .ensures, c .before .before .before .fresh3 .ensures, c .before .before .before .before .fresh2 .ensures, c .before .before .before .before .before .fresh .ensures)
+      (λ i. record { state = open-shut-controller fresh-controller (fresh-record (c .before .before .before .before .before .before .args .quiet) .last) i; «last_time» = Absent; start = start-of (c .before .before .before .before .before .before .args .quiet) });
+  every-bit = rw (c .zero-output .ensures, c .before .absent .ensures, c .before .before .fresh4 .ensures, c .before .before .before .fresh3 .ensures, c .before .before .before .before .fresh2 .ensures, c .before .before .before .before .before .fresh .ensures);
 }
 
 pub air-box-fresh-spec : {M : Type 1} → statement M
 air-box-fresh-spec =
-    tie.close (tie.spec (λ c κs. search needs) (λ c κs. search needs) (λ c κs. search needs) returns)
+    tie.close
+    (tie.spec
+    (λ c κs. search needs)
+    (λ c κs. search needs)
+    (λ c κs. search needs)
+    (λ c κs. search needs)
+    (λ c κs. search needs)
+    (λ c κs. search needs)
+    returns)

@@ -4,7 +4,7 @@ use contract.Running.{givenOf, tables, tablesOf}
 use denote.Struct.Laws as Struct
 use denote.Triple.Spec.{tripleOf}
 use denote.Triple.Table.{entered, cited}
-use Rattle.lent.specs.Lent.{PlainType, of-struct, of-enum, Two, TwoLaws, two-shape, ByValue, lent-tick-meets}
+use Rattle.lent.specs.Lent.{PlainType, of-struct, of-enum, Two, two-of, TwoLaws, two-shape, ByValue, lent-tick-meets}
 use Rattle.air_box.specs.AirBox as AirBoxes
 use Rattle.air_box.specs.declared.AirBox.{AirBox}
 use Rattle.air_box.specs.declared.AirBoxStep.{AirBoxStep}
@@ -37,16 +37,7 @@ answered = of-enum N.the-type N′.the-laws tt N′.the-plain N′.the-copy
 
 -- what `tick` returns: the box and the answer
 abbrev step : Two box answered
-step = record {
-  name = O.the-type .name;
-  X = AirBoxStep;
-  first = λ r. r .state;
-  second = λ r. r .answer;
-  written = O.the-row .written;
-  reaches = O.the-row .reaches;
-  own = O.the-row .own;
-  coded = O.the-row .coded;
-}
+step = two-of box answered O.the-type (λ r. r .state) (λ r. r .answer)
 
 step-laws : TwoLaws box answered step
 step-laws = record {

@@ -1,0 +1,17 @@
+-- `air_box_c::AirflowC::tick` meets its contract. Assumes nothing.
+use borrow.Author.Needs.{needs}
+use Rattle.air_box_c.proofs.AirflowC.tick.Statement.{statement}
+use Rattle.air_box_c.proofs.AirflowC.tick.Tie as tie
+
+returns : tie.Need-returns
+returns c = rw (c .airflow-tick .ensures, c .before .airflow-steps .ensures, c .before .before .open2 .ensures, c .before .before .before .before .before .«open» .ensures)
+
+pub tick-spec : {M : Type 1} → statement M
+tick-spec =
+    tie.close
+    (tie.spec
+    (λ c κs. search needs)
+    (λ c κs. search needs)
+    (λ c κs. search needs)
+    (λ c κs. search needs)
+    returns)

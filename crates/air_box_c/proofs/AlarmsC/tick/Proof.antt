@@ -1,0 +1,18 @@
+-- `air_box_c::AlarmsC::tick` meets its contract. Assumes nothing.
+use borrow.Author.Needs.{needs}
+use Rattle.air_box_c.proofs.AlarmsC.tick.Statement.{statement}
+use Rattle.air_box_c.proofs.AlarmsC.tick.Tie as tie
+
+returns : tie.Need-returns
+returns c = rw (c .controller-output .ensures, c .before .before .shut .ensures, c .before .before .before .output .ensures, c .before .before .before .before .alarm-input .ensures, c .before .before .before .before .before .«open» .ensures)
+
+pub tick-spec : {M : Type 1} → statement M
+tick-spec =
+    tie.close
+    (tie.spec
+    (λ c κs. search needs)
+    (λ c κs. search needs)
+    (λ c κs. search needs)
+    (λ c κs. search needs)
+    (λ c κs. search needs)
+    returns)
