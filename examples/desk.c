@@ -34,7 +34,7 @@ static void print_time(double t) {
 
 int main(void) {
     AirBox box = air_box_fresh(false);
-    const AirBoxOutput *o = &box.answer.output;
+    const AirBoxOutput *o = &box.last.answer.output;
     AirBoxTick tick;
     TickLine line;
     int shown = -1;
@@ -44,8 +44,8 @@ int main(void) {
             continue;
         }
         air_box_tick(&box, &tick);
-        if (box.answer.number != AIR_BOX_ACCEPTED) {
-            printf("--:--:--  refused %d: %s\n", box.answer.number, reason(box.answer.number));
+        if (box.last.answer.number != AIR_BOX_ACCEPTED) {
+            printf("--:--:--  refused %d: %s\n", box.last.answer.number, reason(box.last.answer.number));
             continue;
         }
         int code = air_box_desk_code(o->low_airflow_alarm, o->airflow_sensor_alarm, o->leaking_damper_alarm);

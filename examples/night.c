@@ -20,7 +20,7 @@ int main(void) {
     while ((line = next_tick(&box, &tick)) != END_OF_INPUT) {
         if (line == A_TICK) air_box_tick(&box, &tick);
         if (line == MALFORMED) puts("malformed");
-        else if (box.answer.number != AIR_BOX_ACCEPTED) printf("refused %d\n", box.answer.number);
-        else print_output(&box.answer.output);
+        else if (box.last.answer.number != AIR_BOX_ACCEPTED) printf("refused %d\n", box.last.answer.number);
+        else print_output(&box.last.answer.output);
     }
 }

@@ -230,23 +230,17 @@ AIR_BOX_ASSERT(offsetof(AirBoxAlarms, sensor_delay) == 152);
 AIR_BOX_ASSERT(offsetof(AirBoxAlarms, damper_closed) == 184);
 AIR_BOX_ASSERT(offsetof(AirBoxAlarms, leak_delay) == 192);
 
-/* The controller's state. */
-typedef struct AirBoxController {
-    AirBoxTimeSuppression time_suppression;
+/* From the control loops to the damper. */
+typedef struct AirBoxAirflow {
     AirBoxControlLoops control_loops;
     AirBoxSetpoints setpoints;
     AirBoxZoneStates zone_states;
     AirBoxDamper dampers;
-    AirBoxSystemRequests system_requests;
-    AirBoxAlarms alarms;
-} AirBoxController;
-AIR_BOX_ASSERT(sizeof(AirBoxController) == 824);
-AIR_BOX_ASSERT(offsetof(AirBoxController, control_loops) == 160);
-AIR_BOX_ASSERT(offsetof(AirBoxController, setpoints) == 304);
-AIR_BOX_ASSERT(offsetof(AirBoxController, zone_states) == 305);
-AIR_BOX_ASSERT(offsetof(AirBoxController, dampers) == 312);
-AIR_BOX_ASSERT(offsetof(AirBoxController, system_requests) == 352);
-AIR_BOX_ASSERT(offsetof(AirBoxController, alarms) == 600);
+} AirBoxAirflow;
+AIR_BOX_ASSERT(sizeof(AirBoxAirflow) == 192);
+AIR_BOX_ASSERT(offsetof(AirBoxAirflow, setpoints) == 144);
+AIR_BOX_ASSERT(offsetof(AirBoxAirflow, zone_states) == 145);
+AIR_BOX_ASSERT(offsetof(AirBoxAirflow, dampers) == 152);
 
 /* The ten outputs. Airflows in cubic metres a second; the damper command is from 0, closed, to 1, open. */
 typedef struct AirBoxOutput {
@@ -280,17 +274,30 @@ typedef struct AirBoxAnswer {
 AIR_BOX_ASSERT(sizeof(AirBoxAnswer) == 88);
 AIR_BOX_ASSERT(offsetof(AirBoxAnswer, output) == 8);
 
-/* A box, and beside it the answer of its last tick. Before the first tick the number is 0 and the outputs are zeros. */
-typedef struct AirBox {
-    AirBoxController state;
-    AirBoxOptionalTime last_time;
+/* The time of the last accepted tick, the start choice, and the answer of the last tick.
+   Before the first tick the number is 0 and the outputs are zeros. */
+typedef struct AirBoxLast {
+    AirBoxOptionalTime time;
     bool quiet;
     AirBoxAnswer answer;
+} AirBoxLast;
+AIR_BOX_ASSERT(sizeof(AirBoxLast) == 112);
+AIR_BOX_ASSERT(offsetof(AirBoxLast, quiet) == 16);
+AIR_BOX_ASSERT(offsetof(AirBoxLast, answer) == 24);
+
+/* A box, in the order in which a tick goes through it. */
+typedef struct AirBox {
+    AirBoxTimeSuppression time_suppression;
+    AirBoxAirflow airflow;
+    AirBoxSystemRequests system_requests;
+    AirBoxAlarms alarms;
+    AirBoxLast last;
 } AirBox;
 AIR_BOX_ASSERT(sizeof(AirBox) == 936);
-AIR_BOX_ASSERT(offsetof(AirBox, last_time) == 824);
-AIR_BOX_ASSERT(offsetof(AirBox, quiet) == 840);
-AIR_BOX_ASSERT(offsetof(AirBox, answer) == 848);
+AIR_BOX_ASSERT(offsetof(AirBox, airflow) == 160);
+AIR_BOX_ASSERT(offsetof(AirBox, system_requests) == 352);
+AIR_BOX_ASSERT(offsetof(AirBox, alarms) == 600);
+AIR_BOX_ASSERT(offsetof(AirBox, last) == 824);
 
 /* The readings and settings of a tick. Temperatures in kelvin, CO2 in parts per million, airflow in cubic metres a second.
    Where window_status is false, the outdoor airflows are 0. The mode and both override indices may be any numbers. */
@@ -337,7 +344,7 @@ AIR_BOX_ASSERT(offsetof(AirBoxTick, input) == 8);
    The record stands for the fresh box of that start, and its answer is the number 0 and zeros. */
 AirBox air_box_fresh(bool quiet);
 
-/* One tick of the box at `box`: the record then stands for the next box, and `box->answer` is the tick's answer.
+/* One tick of the box at `box`: the record then stands for the next box, and `box->last.answer` is the tick's answer.
    A refused tick leaves the box as it was; a tick may carry any numbers, NaN and infinities among them, and none stops the box. */
 void air_box_tick(AirBox *box, const AirBoxTick *tick);
 

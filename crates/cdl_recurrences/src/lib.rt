@@ -72,7 +72,7 @@ pub fn true_delay_output(
     ensures { λ r. ⌜ r ≡ Cdl.true-delay-output t u «delay_time» «delay_on_init» «prev_time» «prev_u» held timer ⌝ }
 {
     if u {
-        let delay = f64_helpers::max(delay_time, 0.0);
+        let delay = f64_helpers::max_zero(delay_time);
         match prev_time {
             OptionalTime::Absent => {
                 if delay_on_init & (delay > 0.0) {
@@ -116,7 +116,7 @@ fn true_delay_running(
             timer: delay,
         }
     } else if prev_u {
-        let next_timer = timer + f64_helpers::max(t - previous_time, 0.0);
+        let next_timer = timer + f64_helpers::max_zero(t - previous_time);
         TrueDelayOutput {
             output: next_timer >= delay,
             timer: next_timer,

@@ -272,6 +272,6 @@ pub fn step_seconds(previous_time: OptionalTime, t: f64) -> f64
 {
     match previous_time {
         OptionalTime::Absent => 0.0,
-        OptionalTime::At(previous) => f64_helpers::max(t - previous, 0.0),
+        OptionalTime::At(previous) => f64_helpers::max_zero(t - previous),
     }
 }

@@ -149,7 +149,7 @@ eq→le x y h = go (lt x y)
     go true = tt
     go false = h
 
-not-both : (x y : Float) → T (lt x y) → T (le y x) → ⊥
+pub not-both : (x y : Float) → T (lt x y) → T (le y x) → ⊥
 not-both x y h k = let n = le-numbers y x k in T-not (le y x) (subst T (lt-is-not-le x y (n .1) (n .0)) h) k
 
 less-if-not : (x y : Float) → T (not (isNan x)) → T (not (isNan y)) → (T (le y x) → ⊥) → T (lt x y)

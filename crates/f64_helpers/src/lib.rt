@@ -84,6 +84,13 @@ pub fn max(a: f64, b: f64) -> f64
     }
 }
 
+// `x.max(0.0)`, by one comparison: a NaN and a zero of either sign give 0.0.
+pub fn max_zero(x: f64) -> f64
+    ensures { λ r. ⌜ r ≡ Helpers.larger x zero ⌝ }
+{
+    if x > 0.0 { x } else { 0.0 }
+}
+
 // `a.min(b)`.
 pub fn min(a: f64, b: f64) -> f64
     ensures { λ r. ⌜ r ≡ Helpers.smaller a b ⌝ }

@@ -13,15 +13,15 @@ enum-known-prev-time c = search needs
 
 returns : tie.Need-returns
 unfolding true-delay-output ofBits
-returns c = rw (c .before .before .before .before .if1 .taken, c .before .enum-told .given .1, ← c .before .before .before .max .ensures, c .if2 .taken)
+returns c = rw (c .before .before .before .before .if1 .taken, c .before .enum-told .given .1, ← c .before .before .before .max-zero .ensures, c .if2 .taken)
 
 returns-2 : tie.Need-returns-2
 unfolding true-delay-output ofBits
-returns-2 c = rw (c .before .before .before .before .if1 .taken, c .before .enum-told .given .1, ← c .before .before .before .max .ensures, c .if2 .left)
+returns-2 c = rw (c .before .before .before .before .if1 .taken, c .before .enum-told .given .1, ← c .before .before .before .max-zero .ensures, c .if2 .left)
 
 returns-3 : tie.Need-returns-3
 unfolding true-delay-output ofBits
-returns-3 c = rw (c .true-delay-running .ensures, c .before .before .before .before .before .if1 .taken, c .before .before .prev-time .given .1, c .before .before .before .before .max .ensures)
+returns-3 c = rw (c .true-delay-running .ensures, c .before .before .before .before .before .if1 .taken, c .before .before .prev-time .given .1, c .before .before .before .before .max-zero .ensures)
 
 returns-4 : tie.Need-returns-4
 unfolding true-delay-output ofBits

@@ -11,7 +11,7 @@ returns c = rw (c .if1 .taken)
 
 returns-2 : tie.Need-returns-2
 unfolding true-delay-running ofBits
-returns-2 c = rw (c .before .before .if1 .left, c .before .if2 .taken, c .max .ensures)
+returns-2 c = rw (c .before .before .if1 .left, c .before .if2 .taken, c .max-zero .ensures)
 
 returns-3 : tie.Need-returns-3
 unfolding true-delay-running ofBits

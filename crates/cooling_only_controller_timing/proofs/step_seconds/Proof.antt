@@ -16,7 +16,7 @@ returns c = rw (c .enum-told .given .1)
 
 returns-2 : tie.Need-returns-2
 unfolding ofBits
-returns-2 c = rw (c .max .ensures, c .before .before .previous-time .given .1)
+returns-2 c = rw (c .max-zero .ensures, c .before .before .previous-time .given .1)
 
 pub step-seconds-spec : {M : Type 1} → statement M
 step-seconds-spec =

@@ -1,35 +1,24 @@
 -- `f64_helpers::max` meets its contract. Assumes nothing.
-use mathlib.Core.Path.{_≡_, refl, sym, _∙_}
-use mathlib.Core.Bool.{Bool, true, false, cond, _&&_}
-use lib.IntN.{pos}
-use lib.Ieee.{Float, fin, ofBits, lt, eq, ne, isNan}
+use mathlib.Core.Path.{refl, _∙_}
+use mathlib.Core.Bool.{true, false}
+use lib.Ieee.{ofBits, lt, eq}
 use Rattle.f64_helpers.specs.F64.{zero}
-use Rattle.f64_helpers.specs.Helpers.{larger, negative}
-use Rattle.f64_helpers.proofs.Facts.{yes, sum-of-zeros, nan-test}
+use Rattle.f64_helpers.proofs.Facts.{yes, sum-of-zeros, is-nan, larger-by-tests}
 use Rattle.f64_helpers.proofs.max.Statement.{statement}
 use Rattle.f64_helpers.proofs.max.Tie as tie
-
--- the definition with its tests as variables
-pick : (x y : Float) (n l a b : Bool) → isNan x ≡ n → lt x y ≡ l → eq x zero ≡ a → eq y zero ≡ b
-    → cond n y (cond l y (cond (a && b) (fin (negative x && negative y) 0 (pos 0)) x)) ≡ larger x y
-unfolding larger
-pick x y n l a b N L A B = λ i. cond (sym N i) y (cond (sym L i) y (cond (sym A i && sym B i) (fin (negative x && negative y) 0 (pos 0)) x))
-
-is-nan : (x : Float) (b : Bool) → ne x x ≡ b → isNan x ≡ b
-is-nan x b h = sym (nan-test x) ∙ h
 
 returns : tie.Need-returns
 returns c =
     let x = c .before .args .a in
     let y = c .before .args .b in
-    pick x y true (lt x y) (eq x zero) (eq y zero) (is-nan x true (c .if1 .taken)) refl refl refl
+    larger-by-tests x y true (lt x y) (eq x zero) (eq y zero) (is-nan x true (c .if1 .taken)) refl refl refl
 
 returns-2 : tie.Need-returns-2
 returns-2 c =
     let s = c .before .before in
     let x = s .args .a in
     let y = s .args .b in
-    pick x y false true (eq x zero) (eq y zero) (is-nan x false (c .before .if1 .left)) (c .if2 .taken) refl refl
+    larger-by-tests x y false true (eq x zero) (eq y zero) (is-nan x false (c .before .if1 .left)) (c .if2 .taken) refl refl
 
 returns-3 : tie.Need-returns-3
 unfolding ofBits
@@ -38,7 +27,7 @@ returns-3 c =
     let x = s .args .a in
     let y = s .args .b in
     sum-of-zeros x y (yes (s .good .0 .1)) (yes (s .good .1 .0 .1)) (yes (c .before .if3 .taken)) (yes (c .if4 .taken))
-    ∙ pick x y false false true true (is-nan x false (c .before .before .before .if1 .left)) (c .before .before .if2 .left) (c .before .if3 .taken) (c .if4 .taken)
+    ∙ larger-by-tests x y false false true true (is-nan x false (c .before .before .before .if1 .left)) (c .before .before .if2 .left) (c .before .if3 .taken) (c .if4 .taken)
 
 returns-4 : tie.Need-returns-4
 unfolding ofBits
@@ -46,7 +35,7 @@ returns-4 c =
     let s = c .before .before .before .before in
     let x = s .args .a in
     let y = s .args .b in
-    pick x y false false true false (is-nan x false (c .before .before .before .if1 .left)) (c .before .before .if2 .left) (c .before .if3 .taken) (c .if4 .left)
+    larger-by-tests x y false false true false (is-nan x false (c .before .before .before .if1 .left)) (c .before .before .if2 .left) (c .before .if3 .taken) (c .if4 .left)
 
 returns-5 : tie.Need-returns-5
 unfolding ofBits
@@ -54,7 +43,7 @@ returns-5 c =
     let s = c .before .before .before in
     let x = s .args .a in
     let y = s .args .b in
-    pick x y false false false (eq y zero) (is-nan x false (c .before .before .if1 .left)) (c .before .if2 .left) (c .if3 .left) refl
+    larger-by-tests x y false false false (eq y zero) (is-nan x false (c .before .before .if1 .left)) (c .before .if2 .left) (c .if3 .left) refl
 
 pub max-spec : {M : Type 1} → statement M
 max-spec = tie.close (tie.spec returns returns-2 returns-3 returns-4 returns-5)
