@@ -101,12 +101,17 @@ pub cut : (m : ℕ) (e : ℤ) → T (lt (fin false m e) (fin false 1 (pos 52))) 
 unfolding toUnsigned
 cut m e h = uncapped (m * up e / down e) (quotient-small m e h)
 
+-- what lies above 0 and below 2 ^ 52 is a finite number with no sign
+small-positive : (P : Float → Type 0) → ((m : ℕ) (e : ℤ) → T (lt (fin false m e) (fin false 1 (pos 52))) → P (fin false m e)) → (x : Float) → T (lt zeroᶠ x) → T (lt x (fin false 1 (pos 52))) → P x
+small-positive P f nan p h = absurd (unfold lt in p)
+small-positive P f (inf true) p h = absurd (unfold lt in p)
+small-positive P f (inf false) p h = absurd (unfold lt in h)
+small-positive P f (fin true m e) p h = absurd (unfold lt in p)
+small-positive P f (fin false m e) p h = f m e h
+
 pub floor-small : (x : Float) → T (lt zeroᶠ x) → T (lt x (fin false 1 (pos 52))) → ofInt binary64 (pos (toUnsigned 64 x)) ≡ floor x
-floor-small nan p h = absurd (unfold lt in p)
-floor-small (inf true) p h = absurd (unfold lt in p)
-floor-small (inf false) p h = absurd (unfold lt in h)
-floor-small (fin true m e) p h = absurd (unfold lt in p)
-floor-small (fin false m e) p h = unfold floor ofInt in ap (λ (z : ℕ). round binary64 false z 1) (cut m e h)
+unfolding floor ofInt
+floor-small = small-positive (λ (x : Float). ofInt binary64 (pos (toUnsigned 64 x)) ≡ floor x) (λ m e h. ap (λ (z : ℕ). round binary64 false z 1) (cut m e h))
 
 -- ---- a whole number q, as a float t, against a value that is not negative
 whole-lt : (t : Float) (q m : ℕ) (e : ℤ) → HasValue t false q 1 → T (lt t (fin false m e)) → q * down e < m * up e
@@ -151,30 +156,16 @@ part-value : (m : ℕ) (e : ℤ) → T (lt (fin false m e) (fin false 1 (pos 52)
 part-value m e h = round-whole binary64 false (m * up e / down e) (wide (m * up e / down e) (quotient-small m e h))
 
 pub ceil-small-more : (x : Float) (n : ℕ) → T (lt zeroᶠ x) → T (lt x (fin false 1 (pos 52))) → n ≡ toUnsigned 64 x → T (lt (ofInt binary64 (pos n)) x) → ofInt binary64 (pos (n + 1)) ≡ ceil x
-unfolding lt ceil ofInt
-ceil-small-more nan n p h i k = absurd p
-ceil-small-more (inf true) n p h i k = absurd p
-ceil-small-more (inf false) n p h i k = absurd h
-ceil-small-more (fin true m e) n p h i k = absurd p
-ceil-small-more (fin false m e) n p h i k =
-    let q = m * up e / down e in
-    let n-is : n ≡ q = i ∙ cut m e h in
-    let k' : T (lt (round binary64 false q 1) (fin false m e)) = subst (λ (z : ℕ). T (lt (round binary64 false z 1) (fin false m e))) n-is k in
-    ap (λ (z : ℕ). round binary64 false z 1)
-    (ap (λ (z : ℕ). z + 1) n-is ∙ sym (ceil-more (m * up e) (down e) (down-pos e) (whole-lt (round binary64 false q 1) q m e (part-value m e h) k')))
+unfolding ceil ofInt
+ceil-small-more x n p h = small-positive (λ (x : Float). n ≡ toUnsigned 64 x → T (lt (ofInt binary64 (pos n)) x) → ofInt binary64 (pos (n + 1)) ≡ ceil x) (λ m e h i k.
+    let n-is : n ≡ m * up e / down e = i ∙ cut m e h in
+    rw (n-is, ceil-more (m * up e) (down e) (down-pos e) (whole-lt (round binary64 false (m * up e / down e) 1) (m * up e / down e) m e (part-value m e h) (rw n-is at k)))) x p h
 
 pub ceil-small-same : (x : Float) (n : ℕ) → T (lt zeroᶠ x) → T (lt x (fin false 1 (pos 52))) → n ≡ toUnsigned 64 x → T (not (lt (ofInt binary64 (pos n)) x)) → ofInt binary64 (pos n) ≡ ceil x
-unfolding lt ceil ofInt
-ceil-small-same nan n p h i k = absurd p
-ceil-small-same (inf true) n p h i k = absurd p
-ceil-small-same (inf false) n p h i k = absurd h
-ceil-small-same (fin true m e) n p h i k = absurd p
-ceil-small-same (fin false m e) n p h i k =
-    let q = m * up e / down e in
-    let n-is : n ≡ q = i ∙ cut m e h in
-    let k' : T (not (lt (round binary64 false q 1) (fin false m e))) = subst (λ (z : ℕ). T (not (lt (round binary64 false z 1) (fin false m e)))) n-is k in
-    ap (λ (z : ℕ). round binary64 false z 1)
-    (n-is ∙ sym (ceil-same (m * up e) (down e) (down-pos e) (whole-nlt (round binary64 false q 1) q m e (part-value m e h) k')))
+unfolding ceil ofInt
+ceil-small-same x n p h = small-positive (λ (x : Float). n ≡ toUnsigned 64 x → T (not (lt (ofInt binary64 (pos n)) x)) → ofInt binary64 (pos n) ≡ ceil x) (λ m e h i k.
+    let n-is : n ≡ m * up e / down e = i ∙ cut m e h in
+    rw (n-is, ceil-same (m * up e) (down e) (down-pos e) (whole-nlt (round binary64 false (m * up e / down e) 1) (m * up e / down e) m e (part-value m e h) (rw n-is at k)))) x p h
 
 -- ---- what a call of a `truncating_` function asks
 pub above-minus-one : (x : Float) → T (lt zeroᶠ x) → T (lt (fin true 1 (pos 0)) x)

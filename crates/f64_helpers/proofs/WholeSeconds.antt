@@ -85,25 +85,24 @@ left k de dd a h = ap (λ (x : ℕ). x * dd) h ∙ mul-assoc a de dd
 right : (k de dd b : ℕ) → k ≡ b * dd → k * de ≡ b * (de * dd)
 right k de dd b h = ap (λ (x : ℕ). x * de) h ∙ mul-assoc b dd de ∙ ap (λ (x : ℕ). b * x) (mul-comm dd de)
 
+-- of two whole numbers, at the denominator of both
+at-one-scale : (P : Float → Float → Type 0) (a b : ℕ)
+    → ((s t : Bool) (m n : ℕ) (e d : ℤ) → 0 < down e * down d → m * up e * down d ≡ a * (down e * down d) → n * up d * down e ≡ b * (down e * down d) → (T s → a ≡ 0) → (T t → b ≡ 0) → P (fin s m e) (fin t n d))
+    → (x y : Float) → Whole x a → Whole y b → P x y
+at-one-scale P a b f nan y v w = absurd v
+at-one-scale P a b f (inf s) y v w = absurd v
+at-one-scale P a b f (fin s m e) nan v w = absurd w
+at-one-scale P a b f (fin s m e) (inf t) v w = absurd w
+at-one-scale P a b f (fin s m e) (fin t n d) v w =
+    f s t m n e d (mul-pos (down-pos e) (down-pos d)) (left (m * up e) (down e) (down d) a (v .0)) (right (n * up d) (down e) (down d) b (w .0)) (v .1) (w .1)
+
 pub add-whole : (f : Format) (x y : Float) (a b : ℕ) → Whole x a → Whole y b → a + b ≤ 2 ^ prec f → Whole (add f x y) (a + b)
 unfolding add
-add-whole f nan y a b v w N = absurd v
-add-whole f (inf s) y a b v w N = absurd v
-add-whole f (fin s m e) nan a b v w N = absurd w
-add-whole f (fin s m e) (inf t) a b v w N = absurd w
-add-whole f (fin s m e) (fin t n d) a b v w N =
-    subst₂ (λ (x y : ℕ). Whole (sum f s x t y (down e * down d)) (a + b)) (sym (left (m * up e) (down e) (down d) a (v .0))) (sym (right (n * up d) (down e) (down d) b (w .0)))
-    (sum-whole f s t a b (down e * down d) (mul-pos (down-pos e) (down-pos d)) N (v .1) (w .1))
+add-whole f x y a b v w N = at-one-scale (λ (x y : Float). Whole (add f x y) (a + b)) a b (λ s t m n e d C p q y z. rw (p, q) (sum-whole f s t a b (down e * down d) C N y z)) x y v w
 
 pub sub-whole : (f : Format) (x y : Float) (a b : ℕ) → Whole x a → Whole y b → b ≤ a → a ≤ 2 ^ prec f → Whole (sub f x y) (a - b)
 unfolding sub
-sub-whole f nan y a b v w H N = absurd v
-sub-whole f (inf s) y a b v w H N = absurd v
-sub-whole f (fin s m e) nan a b v w H N = absurd w
-sub-whole f (fin s m e) (inf t) a b v w H N = absurd w
-sub-whole f (fin s m e) (fin t n d) a b v w H N =
-    subst₂ (λ (x y : ℕ). Whole (sum f s x (not t) y (down e * down d)) (a - b)) (sym (left (m * up e) (down e) (down d) a (v .0))) (sym (right (n * up d) (down e) (down d) b (w .0)))
-    (sub-sum f s t a b (down e * down d) (mul-pos (down-pos e) (down-pos d)) H N (v .1) (w .1))
+sub-whole f x y a b v w H N = at-one-scale (λ (x y : Float). Whole (sub f x y) (a - b)) a b (λ s t m n e d C p q y z. rw (p, q) (sub-sum f s t a b (down e * down d) C H N y z)) x y v w
 
 -- ---- order
 pub same-test : (p q : Bool) → (T p → T q) → (T q → T p) → p ≡ q
@@ -124,13 +123,7 @@ below-is true true a b c C y z = same-test (ltb (b * c) (a * c)) (ltb a b) (λ h
 
 pub lt-whole : (x y : Float) (a b : ℕ) → Whole x a → Whole y b → lt x y ≡ ltb a b
 unfolding lt
-lt-whole nan y a b v w = absurd v
-lt-whole (inf s) y a b v w = absurd v
-lt-whole (fin s m e) nan a b v w = absurd w
-lt-whole (fin s m e) (inf t) a b v w = absurd w
-lt-whole (fin s m e) (fin t n d) a b v w =
-    subst₂ (λ (x y : ℕ). below s x t y ≡ ltb a b) (sym (left (m * up e) (down e) (down d) a (v .0))) (sym (right (n * up d) (down e) (down d) b (w .0)))
-    (below-is s t a b (down e * down d) (mul-pos (down-pos e) (down-pos d)) (v .1) (w .1))
+lt-whole x y a b v w = at-one-scale (λ (x y : Float). lt x y ≡ ltb a b) a b (λ s t m n e d C p q y z. rw (p, q) (below-is s t a b (down e * down d) C y z)) x y v w
 
 -- ±a = ±b: the sizes are equal, and the signs where they are not 0
 signs : (s t : Bool) (a b c : ℕ) → (T s → a ≡ 0) → (T t → b ≡ 0) → a ≡ b → T (Bool·beq s t || eqb (a * c) 0)
@@ -147,13 +140,7 @@ level-is s t a b c C y z =
 
 pub eq-whole : (x y : Float) (a b : ℕ) → Whole x a → Whole y b → eq x y ≡ eqb a b
 unfolding eq
-eq-whole nan y a b v w = absurd v
-eq-whole (inf s) y a b v w = absurd v
-eq-whole (fin s m e) nan a b v w = absurd w
-eq-whole (fin s m e) (inf t) a b v w = absurd w
-eq-whole (fin s m e) (fin t n d) a b v w =
-    subst₂ (λ (x y : ℕ). level s x t y ≡ eqb a b) (sym (left (m * up e) (down e) (down d) a (v .0))) (sym (right (n * up d) (down e) (down d) b (w .0)))
-    (level-is s t a b (down e * down d) (mul-pos (down-pos e) (down-pos d)) (v .1) (w .1))
+eq-whole x y a b v w = at-one-scale (λ (x y : Float). eq x y ≡ eqb a b) a b (λ s t m n e d C p q y z. rw (p, q) (level-is s t a b (down e * down d) C y z)) x y v w
 
 or-is : (a b : ℕ) → (ltb a b || eqb a b) ≡ leb a b
 or-is a b = same-test (ltb a b || eqb a b) (leb a b) (λ h. le→leb a b (there (ltb a b) (eqb a b) (ltb→lt a b) (eqb→eq a b) h)) (λ h. back (ltb a b) (nltb→le a b) (leb→le a b h))

@@ -320,6 +320,10 @@ pub record Stage (P X Q Y : PlainType) : Type 2 where
   pub does : Data P → Data X → gives .X → Type 0
   pub name : Name
 
+-- by a declared struct T
+abbrev pub stage-of : (P X Q Y : PlainType) (T : Declared) (first : T .D → Data Q) (second : T .D → Data Y) → TwoLaws Q Y (two-of Q Y T first second) → (Data P → Data X → T .D → Type 0) → Name → Stage P X Q Y
+stage-of P X Q Y T first second laws does name = record { gives = two-of Q Y T first second; laws = laws; does = does; name = name }
+
 abbrev pub StageMeets : (P X Q Y : PlainType) → Stage P X Q Y → {M : Type 1} (𝓤 : URA M) (H : Heap 𝓤) (A : Atoms 𝓤) → Contract 𝓤
 StageMeets P X Q Y s 𝓤 H A = ByValue (P .shape) (X .shape) (two-shape Q Y (s .gives)) (s .does) 𝓤 H A
 

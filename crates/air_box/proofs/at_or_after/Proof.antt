@@ -3,17 +3,8 @@ use borrow.Author.Needs.{needs}
 use Rattle.air_box.proofs.at_or_after.Statement.{statement}
 use Rattle.air_box.proofs.at_or_after.Tie as tie
 
-enum-told : tie.Need-enum-told
-enum-told c = search needs
-
-enum-known-last-time : tie.Need-enum-known-last-time
-enum-known-last-time c = search needs
-
-returns : tie.Need-returns
-returns c = search needs
-
 returns-2 : tie.Need-returns-2
 returns-2 c = rw (c .before .last-time .given .1)
 
 pub at-or-after-spec : {M : Type 1} → statement M
-at-or-after-spec = tie.close (tie.spec enum-told enum-known-last-time returns returns-2)
+at-or-after-spec = tie.close (tie.spec (λ c. search needs) (λ c. search needs) (λ c. search needs) returns-2)

@@ -47,21 +47,6 @@ returns-8 c =
 
 pub questions-spec : {M : Type 1} → statement M
 questions-spec =
-    tie.close
-    (tie.spec
-    (λ c κs. search needs)
-    returns
-    (λ c κs. search needs)
-    returns-2
-    (λ c κs. search needs)
-    returns-3
-    (λ c κs. search needs)
-    returns-4
-    (λ c κs. search needs)
-    returns-5
-    (λ c κs. search needs)
-    (λ c κs. search needs)
-    returns-6
-    (λ c κs. search needs)
-    returns-7
-    returns-8)
+    tie.close (tie.spec (λ c κs. search needs) returns (λ c κs. search needs) returns-2 (λ c κs. search needs)
+    returns-3 (λ c κs. search needs) returns-4 (λ c κs. search needs) returns-5 (λ c κs. search needs)
+    (λ c κs. search needs) returns-6 (λ c κs. search needs) returns-7 returns-8)

@@ -10,11 +10,5 @@ returns c = rw (c .within5 .ensures, c .before .within4 .ensures, c .before .bef
 
 pub temperatures-within-spec : {M : Type 1} → statement M
 temperatures-within-spec =
-    tie.close
-    (tie.spec
-    (λ c κs. search needs)
-    (λ c κs. search needs)
-    (λ c κs. search needs)
-    (λ c κs. search needs)
-    (λ c κs. search needs)
-    returns)
+    tie.close (tie.spec (λ c κs. search needs) (λ c κs. search needs) (λ c κs. search needs)
+    (λ c κs. search needs) (λ c κs. search needs) returns)

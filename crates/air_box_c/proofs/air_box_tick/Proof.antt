@@ -7,7 +7,7 @@ use contract.Running.{givenOf, tables, tablesOf}
 use denote.Struct.Laws as Struct
 use denote.Triple.Spec.{tripleOf}
 use denote.Triple.Table.{entered, cited}
-use Rattle.lent.specs.Lent.{PlainType, of-struct, of-u8, two-of, Two, TwoLaws, Five, FiveLaws, Stage, StageMeets, ByValue, lent-parts-meets}
+use Rattle.lent.specs.Lent.{PlainType, of-struct, of-u8, Five, FiveLaws, Stage, stage-of, StageMeets, ByValue, lent-parts-meets}
 use Rattle.air_box.specs.declared.Tick.{Tick}
 use Rattle.air_box.proofs.Tick as Tick·
 use Rattle.air_box.proofs.Tick.Laws as Tick′
@@ -146,69 +146,44 @@ box-laws = record {
 -- ---- the functions by value, with what each ensures of its result
 
 abbrev ask-stage : Stage last-type tick-type of-u8 begun-type
-ask-stage = record {
-  gives = two-of of-u8 begun-type Asked·.the-type (λ r. r .number) (λ r. r .next);
-  laws = record {
-    tells = Struct.tells Asked·.the-type Asked′.the-laws;
-    lawful = λ 𝓤 H A W. record { typed = Struct.lawful Asked·.the-type Asked′.the-laws 𝓤 H A W .typed };
-    is-first = λ r vs is. Struct.owed Asked·.the-type Asked′.the-laws r vs is .0;
-    is-second = λ r vs is. Struct.owed Asked·.the-type Asked′.the-laws r vs is .1 .0;
-  };
-  does = λ c x r. r ≡ asked c x;
-  name = LastC·ask.name;
-}
+ask-stage = stage-of last-type tick-type of-u8 begun-type Asked·.the-type (λ r. r .number) (λ r. r .next) (record {
+  tells = Struct.tells Asked·.the-type Asked′.the-laws;
+  lawful = λ 𝓤 H A W. record { typed = Struct.lawful Asked·.the-type Asked′.the-laws 𝓤 H A W .typed };
+  is-first = λ r vs is. Struct.owed Asked·.the-type Asked′.the-laws r vs is .0;
+  is-second = λ r vs is. Struct.owed Asked·.the-type Asked′.the-laws r vs is .1 .0;
+}) (λ c x r. r ≡ asked c x) LastC·ask.name
 
 abbrev suppression-stage : Stage suppression-type begun-type suppression-type suppressed-type
-suppression-stage = record {
-  gives = two-of suppression-type suppressed-type SuppressionTick·.the-type (λ r. r .state) (λ r. r .next);
-  laws = record {
-    tells = Struct.tells SuppressionTick·.the-type SuppressionTick′.the-laws;
-    lawful = λ 𝓤 H A W. record { typed = Struct.lawful SuppressionTick·.the-type SuppressionTick′.the-laws 𝓤 H A W .typed };
-    is-first = λ r vs is. Struct.owed SuppressionTick·.the-type SuppressionTick′.the-laws r vs is .0;
-    is-second = λ r vs is. Struct.owed SuppressionTick·.the-type SuppressionTick′.the-laws r vs is .1 .0;
-  };
-  does = λ c x r. r ≡ suppression-tick c x;
-  name = TimeSuppressionC·tick.name;
-}
+suppression-stage = stage-of suppression-type begun-type suppression-type suppressed-type SuppressionTick·.the-type (λ r. r .state) (λ r. r .next) (record {
+  tells = Struct.tells SuppressionTick·.the-type SuppressionTick′.the-laws;
+  lawful = λ 𝓤 H A W. record { typed = Struct.lawful SuppressionTick·.the-type SuppressionTick′.the-laws 𝓤 H A W .typed };
+  is-first = λ r vs is. Struct.owed SuppressionTick·.the-type SuppressionTick′.the-laws r vs is .0;
+  is-second = λ r vs is. Struct.owed SuppressionTick·.the-type SuppressionTick′.the-laws r vs is .1 .0;
+}) (λ c x r. r ≡ suppression-tick c x) TimeSuppressionC·tick.name
 
 abbrev airflow-stage : Stage airflow-type suppressed-type airflow-type aired-type
-airflow-stage = record {
-  gives = two-of airflow-type aired-type AirflowTick·.the-type (λ r. r .state) (λ r. r .next);
-  laws = record {
-    tells = Struct.tells AirflowTick·.the-type AirflowTick′.the-laws;
-    lawful = λ 𝓤 H A W. record { typed = Struct.lawful AirflowTick·.the-type AirflowTick′.the-laws 𝓤 H A W .typed };
-    is-first = λ r vs is. Struct.owed AirflowTick·.the-type AirflowTick′.the-laws r vs is .0;
-    is-second = λ r vs is. Struct.owed AirflowTick·.the-type AirflowTick′.the-laws r vs is .1 .0;
-  };
-  does = λ c x r. r ≡ airflow-tick c x;
-  name = AirflowC·tick.name;
-}
+airflow-stage = stage-of airflow-type suppressed-type airflow-type aired-type AirflowTick·.the-type (λ r. r .state) (λ r. r .next) (record {
+  tells = Struct.tells AirflowTick·.the-type AirflowTick′.the-laws;
+  lawful = λ 𝓤 H A W. record { typed = Struct.lawful AirflowTick·.the-type AirflowTick′.the-laws 𝓤 H A W .typed };
+  is-first = λ r vs is. Struct.owed AirflowTick·.the-type AirflowTick′.the-laws r vs is .0;
+  is-second = λ r vs is. Struct.owed AirflowTick·.the-type AirflowTick′.the-laws r vs is .1 .0;
+}) (λ c x r. r ≡ airflow-tick c x) AirflowC·tick.name
 
 abbrev requests-stage : Stage requests-type aired-type requests-type requested-type
-requests-stage = record {
-  gives = two-of requests-type requested-type RequestsTick·.the-type (λ r. r .state) (λ r. r .next);
-  laws = record {
-    tells = Struct.tells RequestsTick·.the-type RequestsTick′.the-laws;
-    lawful = λ 𝓤 H A W. record { typed = Struct.lawful RequestsTick·.the-type RequestsTick′.the-laws 𝓤 H A W .typed };
-    is-first = λ r vs is. Struct.owed RequestsTick·.the-type RequestsTick′.the-laws r vs is .0;
-    is-second = λ r vs is. Struct.owed RequestsTick·.the-type RequestsTick′.the-laws r vs is .1 .0;
-  };
-  does = λ c x r. r ≡ requests-tick c x;
-  name = SystemRequestsC·tick.name;
-}
+requests-stage = stage-of requests-type aired-type requests-type requested-type RequestsTick·.the-type (λ r. r .state) (λ r. r .next) (record {
+  tells = Struct.tells RequestsTick·.the-type RequestsTick′.the-laws;
+  lawful = λ 𝓤 H A W. record { typed = Struct.lawful RequestsTick·.the-type RequestsTick′.the-laws 𝓤 H A W .typed };
+  is-first = λ r vs is. Struct.owed RequestsTick·.the-type RequestsTick′.the-laws r vs is .0;
+  is-second = λ r vs is. Struct.owed RequestsTick·.the-type RequestsTick′.the-laws r vs is .1 .0;
+}) (λ c x r. r ≡ requests-tick c x) SystemRequestsC·tick.name
 
 abbrev alarms-stage : Stage alarms-type requested-type alarms-type alarmed-type
-alarms-stage = record {
-  gives = two-of alarms-type alarmed-type AlarmsTick·.the-type (λ r. r .state) (λ r. r .next);
-  laws = record {
-    tells = Struct.tells AlarmsTick·.the-type AlarmsTick′.the-laws;
-    lawful = λ 𝓤 H A W. record { typed = Struct.lawful AlarmsTick·.the-type AlarmsTick′.the-laws 𝓤 H A W .typed };
-    is-first = λ r vs is. Struct.owed AlarmsTick·.the-type AlarmsTick′.the-laws r vs is .0;
-    is-second = λ r vs is. Struct.owed AlarmsTick·.the-type AlarmsTick′.the-laws r vs is .1 .0;
-  };
-  does = λ c x r. r ≡ alarms-tick c x;
-  name = AlarmsC·tick.name;
-}
+alarms-stage = stage-of alarms-type requested-type alarms-type alarmed-type AlarmsTick·.the-type (λ r. r .state) (λ r. r .next) (record {
+  tells = Struct.tells AlarmsTick·.the-type AlarmsTick′.the-laws;
+  lawful = λ 𝓤 H A W. record { typed = Struct.lawful AlarmsTick·.the-type AlarmsTick′.the-laws 𝓤 H A W .typed };
+  is-first = λ r vs is. Struct.owed AlarmsTick·.the-type AlarmsTick′.the-laws r vs is .0;
+  is-second = λ r vs is. Struct.owed AlarmsTick·.the-type AlarmsTick′.the-laws r vs is .1 .0;
+}) (λ c x r. r ≡ alarms-tick c x) AlarmsC·tick.name
 
 abbrev Taken : LastC → Alarmed → LastC → Type 0
 Taken c x r = r ≡ last-accepted c x

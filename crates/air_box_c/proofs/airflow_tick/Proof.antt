@@ -7,9 +7,4 @@ returns : tie.Need-returns
 returns c = rw (c .before .before .before .shut2 .ensures, c .before .before .before .before .before .before .shut .ensures)
 
 pub airflow-tick-spec : {M : Type 1} → statement M
-airflow-tick-spec =
-    tie.close
-    (tie.spec
-    (λ c κs. search needs)
-    (λ c κs. search needs)
-    returns)
+airflow-tick-spec = tie.close (tie.spec (λ c κs. search needs) (λ c κs. search needs) returns)

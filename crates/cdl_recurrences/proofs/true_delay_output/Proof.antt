@@ -5,12 +5,6 @@ use borrow.Author.Needs.{needs}
 use Rattle.cdl_recurrences.proofs.true_delay_output.Statement.{statement}
 use Rattle.cdl_recurrences.proofs.true_delay_output.Tie as tie
 
-enum-told : tie.Need-enum-told
-enum-told c = search needs
-
-enum-known-prev-time : tie.Need-enum-known-prev-time
-enum-known-prev-time c = search needs
-
 returns : tie.Need-returns
 unfolding true-delay-output ofBits
 returns c = rw (c .before .before .before .before .if1 .taken, c .before .enum-told .given .1, ← c .before .before .before .max-zero .ensures, c .if2 .taken)
@@ -29,13 +23,5 @@ returns-4 c = rw (c .if1 .left)
 
 pub true-delay-output-spec : {M : Type 1} → statement M
 true-delay-output-spec =
-    tie.close
-    (tie.spec
-    (λ c κs. search needs)
-    enum-told
-    enum-known-prev-time
-    (λ c κs. search needs)
-    returns
-    returns-2
-    returns-3
-    returns-4)
+    tie.close (tie.spec (λ c κs. search needs) (λ c. search needs) (λ c. search needs) (λ c κs. search needs)
+    returns returns-2 returns-3 returns-4)

@@ -14,10 +14,5 @@ returns c = rw (c .airflow-override .ensures, c .before .before .choose2 .ensure
 
 pub airflow-setpoint-spec : {M : Type 1} → statement M
 airflow-setpoint-spec =
-    tie.close
-    (tie.spec
-    (λ c κs. search needs)
-    (λ c κs. search needs)
-    (λ c κs. search needs)
-    (λ c κs. search needs)
-    returns)
+    tie.close (tie.spec (λ c κs. search needs) (λ c κs. search needs) (λ c κs. search needs)
+    (λ c κs. search needs) returns)

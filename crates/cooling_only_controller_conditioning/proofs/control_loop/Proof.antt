@@ -11,11 +11,5 @@ returns c = rw (c .before .before .before .choose .ensures, c .before .before .b
 
 pub control-loop-spec : {M : Type 1} → statement M
 control-loop-spec =
-    tie.close
-    (tie.spec
-    (λ c κs. search needs)
-    (λ c κs. search needs)
-    (λ c κs. search needs)
-    (λ c κs. search needs)
-    (λ c κs. search needs)
-    returns)
+    tie.close (tie.spec (λ c κs. search needs) (λ c κs. search needs) (λ c κs. search needs)
+    (λ c κs. search needs) (λ c κs. search needs) returns)

@@ -8,5 +8,4 @@ returns : tie.Need-returns
 returns c = rw (toZ-ofZ (record { sfits = c .sample-index .ok }), c .sample-index .ensures, c .before .initial-sample-time .ensures)
 
 pub first-sampled-spec : {M : Type 1} → statement M
-first-sampled-spec =
-    tie.close (tie.spec (λ c κs. search needs) (λ c κs. search needs) returns)
+first-sampled-spec = tie.close (tie.spec (λ c κs. search needs) (λ c κs. search needs) returns)

@@ -7,9 +7,6 @@ use Rattle.cooling_only_controller_timing.proofs.seconds_since.Tie as t
 enum-told : tie.Need-enum-told
 enum-told c = search needs
 
-enum-known-entry-time : tie.Need-enum-known-entry-time
-enum-known-entry-time c = search needs
-
 returns : tie.Need-returns
 unfolding ofBits
 returns c = rw (c .enum-told .given .1)
@@ -18,4 +15,4 @@ returns-2 : tie.Need-returns-2
 returns-2 c = rw (c .before .entry-time .given .1)
 
 pub seconds-since-spec : {M : Type 1} → statement M
-seconds-since-spec = tie.close (tie.spec enum-told enum-known-entry-time returns returns-2)
+seconds-since-spec = tie.close (tie.spec enum-told (λ c. search needs) returns returns-2)

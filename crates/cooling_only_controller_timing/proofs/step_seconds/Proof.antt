@@ -7,9 +7,6 @@ use Rattle.cooling_only_controller_timing.proofs.step_seconds.Tie as ti
 enum-told : tie.Need-enum-told
 enum-told c = search needs
 
-enum-known-previous-time : tie.Need-enum-known-previous-time
-enum-known-previous-time c = search needs
-
 returns : tie.Need-returns
 unfolding ofBits
 returns c = rw (c .enum-told .given .1)
@@ -20,4 +17,4 @@ returns-2 c = rw (c .max-zero .ensures, c .before .before .previous-time .given 
 
 pub step-seconds-spec : {M : Type 1} → statement M
 step-seconds-spec =
-    tie.close (tie.spec enum-told enum-known-previous-time (λ c κs. search needs) returns returns-2)
+    tie.close (tie.spec enum-told (λ c. search needs) (λ c κs. search needs) returns returns-2)

@@ -9,9 +9,6 @@ truncating-f64-to-i64-requires : tie.Need-truncating-f64-to-i64-requires
 unfolding ofBits neg
 truncating-f64-to-i64-requires c κs = (yes (c .if2 .taken), yes (c .before .if1 .taken))
 
-returns : tie.Need-returns
-returns c = search needs
-
 returns-2 : tie.Need-returns-2
 unfolding ofBits neg
 returns-2 c = signed-low (c .before .before .args .x) (yes (c .before .if1 .taken)) (no (c .if2 .left))
@@ -25,5 +22,4 @@ returns-4 c = signed-high (c .before .before .args .x) (no (c .before .if1 .left
 
 pub as-i64-spec : {M : Type 1} → statement M
 as-i64-spec =
-    tie.close
-    (tie.spec truncating-f64-to-i64-requires returns returns-2 returns-3 returns-4)
+    tie.close (tie.spec truncating-f64-to-i64-requires (λ c. search needs) returns-2 returns-3 returns-4)

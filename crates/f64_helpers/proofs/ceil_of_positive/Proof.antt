@@ -54,12 +54,5 @@ returns-3 c = sym (ceil-large (c .before .args .x) (yes (c .before .good .0 .1))
 
 pub ceil-of-positive-spec : {M : Type 1} → statement M
 ceil-of-positive-spec =
-    tie.close
-    (tie.spec
-    truncating-f64-to-u64-requires
-    (λ c κs. search needs)
-    add-nearest-u64-to-f64
-    (λ c κs. search needs)
-    returns
-    returns-2
-    returns-3)
+    tie.close (tie.spec truncating-f64-to-u64-requires (λ c κs. search needs) add-nearest-u64-to-f64
+    (λ c κs. search needs) returns returns-2 returns-3)

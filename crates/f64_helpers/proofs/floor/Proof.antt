@@ -14,9 +14,6 @@ ceil-of-positive-requires : tie.Need-ceil-of-positive-requires
 unfolding ofBits
 ceil-of-positive-requires c κs = neg-above (c .before .before .args .x) (yes (c .if2 .taken))
 
-returns : tie.Need-returns
-returns c = search needs
-
 returns-2 : tie.Need-returns-2
 returns-2 c = ap neg (c .ceil-of-positive .ensures) ∙ neg-ceil (c .before .before .before .args .x)
 
@@ -28,4 +25,5 @@ returns-3 c =
 
 pub floor-spec : {M : Type 1} → statement M
 floor-spec =
-    tie.close (tie.spec floor-of-positive-requires ceil-of-positive-requires returns returns-2 returns-3)
+    tie.close (tie.spec floor-of-positive-requires ceil-of-positive-requires (λ c. search needs) returns-2
+    returns-3)

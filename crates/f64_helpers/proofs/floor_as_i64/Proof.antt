@@ -57,14 +57,5 @@ returns-3 c = toZ-ofZ (record { sfits = c .as-i642 .ok }) ∙ c .as-i642 .ensure
 
 pub floor-as-i64-spec : {M : Type 1} → statement M
 floor-as-i64-spec =
-    tie.close
-    (tie.spec
-    truncating-f64-to-u64-requires
-    cast-result
-    (λ c κs. search needs)
-    (λ c κs. search needs)
-    (λ c κs. search needs)
-    (λ c κs. search needs)
-    returns
-    returns-2
-    returns-3)
+    tie.close (tie.spec truncating-f64-to-u64-requires cast-result (λ c κs. search needs)
+    (λ c κs. search needs) (λ c κs. search needs) (λ c κs. search needs) returns returns-2 returns-3)

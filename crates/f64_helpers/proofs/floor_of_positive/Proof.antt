@@ -25,5 +25,4 @@ returns-2 c = sym (floor-large (c .before .args .x) (yes (c .before .good .0 .1)
 
 pub floor-of-positive-spec : {M : Type 1} → statement M
 floor-of-positive-spec =
-    tie.close
-    (tie.spec truncating-f64-to-u64-requires (λ c κs. search needs) returns returns-2)
+    tie.close (tie.spec truncating-f64-to-u64-requires (λ c κs. search needs) returns returns-2)

@@ -4,9 +4,6 @@ use borrow.Author.Needs.{needs}
 use Rattle.air_box.proofs.AirBox.tick.Statement.{statement}
 use Rattle.air_box.proofs.AirBox.tick.Tie as tie
 
-enum-known-verdict : tie.Need-enum-known-verdict
-enum-known-verdict c = search needs
-
 enum-told : tie.Need-enum-told
 enum-told c = search needs
 
@@ -20,5 +17,5 @@ returns-2 c = rw (c .accepted .ensures, ← c .before .before .before .questions
 
 pub tick-spec : {M : Type 1} → statement M
 tick-spec =
-    tie.close
-    (tie.spec (λ c κs. search needs) enum-known-verdict enum-told (λ c κs. search needs) returns returns-2)
+    tie.close (tie.spec (λ c κs. search needs) (λ c. search needs) enum-told (λ c κs. search needs) returns
+    returns-2)

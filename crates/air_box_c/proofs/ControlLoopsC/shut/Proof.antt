@@ -10,4 +10,5 @@ returns c = rw (c .shut4 .ensures, c .before .shut3 .ensures, c .before .before 
 
 pub shut-spec : {M : Type 1} → statement M
 shut-spec =
-    tie.close (tie.spec (λ c κs. search needs) (λ c κs. search needs) (λ c κs. search needs) (λ c κs. search needs) returns)
+    tie.close (tie.spec (λ c κs. search needs) (λ c κs. search needs) (λ c κs. search needs)
+    (λ c κs. search needs) returns)

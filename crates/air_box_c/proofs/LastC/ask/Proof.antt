@@ -7,10 +7,4 @@ returns : tie.Need-returns
 returns c = rw (c .verdict-number .ensures, c .before .questions .ensures, c .before .before .«open» .ensures)
 
 pub ask-spec : {M : Type 1} → statement M
-ask-spec =
-    tie.close
-    (tie.spec
-    (λ c κs. search needs)
-    (λ c κs. search needs)
-    (λ c κs. search needs)
-    returns)
+ask-spec = tie.close (tie.spec (λ c κs. search needs) (λ c κs. search needs) (λ c κs. search needs) returns)

@@ -7,8 +7,4 @@ returns : tie.Need-returns
 returns c = rw (c .zero-output .ensures)
 
 pub refused-spec : {M : Type 1} → statement M
-refused-spec =
-    tie.close
-    (tie.spec
-    (λ c κs. search needs)
-    returns)
+refused-spec = tie.close (tie.spec (λ c κs. search needs) returns)

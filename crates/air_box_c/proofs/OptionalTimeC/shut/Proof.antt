@@ -7,9 +7,6 @@ use Rattle.air_box_c.proofs.OptionalTimeC.shut.Tie as tie
 enum-told : tie.Need-enum-told
 enum-told c = search needs
 
-enum-known-s : tie.Need-enum-known-s
-enum-known-s c = search needs
-
 returns : tie.Need-returns
 unfolding ofBits
 returns c = rw (c .enum-told .given .1)
@@ -18,4 +15,4 @@ returns-2 : tie.Need-returns-2
 returns-2 c = rw (c .before .s .given .1)
 
 pub shut-spec : {M : Type 1} → statement M
-shut-spec = tie.close (tie.spec enum-told enum-known-s returns returns-2)
+shut-spec = tie.close (tie.spec enum-told (λ c. search needs) returns returns-2)

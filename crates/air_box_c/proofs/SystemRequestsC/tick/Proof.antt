@@ -8,10 +8,5 @@ returns c = rw (c .before .shut .ensures, c .before .before .output .ensures, c 
 
 pub tick-spec : {M : Type 1} → statement M
 tick-spec =
-    tie.close
-    (tie.spec
-    (λ c κs. search needs)
-    (λ c κs. search needs)
-    (λ c κs. search needs)
-    (λ c κs. search needs)
-    returns)
+    tie.close (tie.spec (λ c κs. search needs) (λ c κs. search needs) (λ c κs. search needs)
+    (λ c κs. search needs) returns)

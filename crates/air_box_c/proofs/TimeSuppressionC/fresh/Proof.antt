@@ -11,11 +11,5 @@ returns c = rw (c .fresh5 .ensures, c .before .fresh4 .ensures, c .before .befor
 
 pub fresh-spec : {M : Type 1} → statement M
 fresh-spec =
-    tie.close
-    (tie.spec
-    (λ c κs. search needs)
-    (λ c κs. search needs)
-    (λ c κs. search needs)
-    (λ c κs. search needs)
-    (λ c κs. search needs)
-    returns)
+    tie.close (tie.spec (λ c κs. search needs) (λ c κs. search needs) (λ c κs. search needs)
+    (λ c κs. search needs) (λ c κs. search needs) returns)

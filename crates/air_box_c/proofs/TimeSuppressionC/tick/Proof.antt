@@ -7,10 +7,4 @@ returns : tie.Need-returns
 returns c = rw (c .shut .ensures, c .before .output .ensures, c .before .before .«open» .ensures)
 
 pub tick-spec : {M : Type 1} → statement M
-tick-spec =
-    tie.close
-    (tie.spec
-    (λ c κs. search needs)
-    (λ c κs. search needs)
-    (λ c κs. search needs)
-    returns)
+tick-spec = tie.close (tie.spec (λ c κs. search needs) (λ c κs. search needs) (λ c κs. search needs) returns)

@@ -55,13 +55,5 @@ returns c =
 
 pub output-spec : {M : Type 1} → statement M
 output-spec =
-    tie.close
-    (tie.spec
-    (λ c κs. search needs)
-    (λ c κs. search needs)
-    (λ c κs. search needs)
-    (λ c κs. search needs)
-    (λ c κs. search needs)
-    (λ c κs. search needs)
-    (λ c κs. search needs)
-    returns)
+    tie.close (tie.spec (λ c κs. search needs) (λ c κs. search needs) (λ c κs. search needs)
+    (λ c κs. search needs) (λ c κs. search needs) (λ c κs. search needs) (λ c κs. search needs) returns)

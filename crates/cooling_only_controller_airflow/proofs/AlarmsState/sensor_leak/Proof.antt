@@ -16,12 +16,5 @@ returns c = rw (toZ-ofZ (record { sfits = c .before .before .before .before .bef
 
 pub sensor-leak-spec : {M : Type 1} → statement M
 sensor-leak-spec =
-    tie.close
-    (tie.spec
-    (λ c κs. search needs)
-    (λ c κs. search needs)
-    (λ c κs. search needs)
-    (λ c κs. search needs)
-    (λ c κs. search needs)
-    (λ c κs. search needs)
-    returns)
+    tie.close (tie.spec (λ c κs. search needs) (λ c κs. search needs) (λ c κs. search needs)
+    (λ c κs. search needs) (λ c κs. search needs) (λ c κs. search needs) returns)

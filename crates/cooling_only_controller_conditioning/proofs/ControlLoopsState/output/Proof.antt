@@ -12,5 +12,4 @@ returns c = rw (c .control-loops-step .ensures, c .before .control-loop2 .ensure
 
 pub output-spec : {M : Type 1} → statement M
 output-spec =
-    tie.close
-    (tie.spec (λ c κs. search needs) (λ c κs. search needs) (λ c κs. search needs) returns)
+    tie.close (tie.spec (λ c κs. search needs) (λ c κs. search needs) (λ c κs. search needs) returns)
