@@ -10,7 +10,6 @@ use Rattle.air_box.specs.AirBox.{tick, delay-on-init}
 use Rattle.air_box.specs.Demand1.{yes}
 use Rattle.air_box.specs.declared.Tick.{Tick}
 use Rattle.air_box.specs.declared.AirBox.{AirBox}
-use Rattle.air_box.specs.declared.AirBoxStep.{AirBoxStep}
 use Rattle.air_box.specs.declared.Answer.the-variants.{Accepted}
 use Rattle.air_box.specs.declared.Refusal.{Refusal}
 

@@ -110,8 +110,8 @@ impl AirBox {
         }
     }
 
-    // What becomes of a tick that no question refuses. It asks none itself: `tick` does, and so does the C interface.
-    pub fn accepted(self, tick: Tick) -> AirBoxStep
+    // What becomes of a tick that no question refuses.
+    fn accepted(self, tick: Tick) -> AirBoxStep
         ensures { λ r. ⌜ r ≡ AirBoxes.accepted-tick self tick ⌝ }
     {
         let start = self.start;

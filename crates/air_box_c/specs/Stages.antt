@@ -1,5 +1,4 @@
 -- One tick over the record of the C interface, part by part. Each stage gives its part afterwards, beside what it hands on to the next; `ByParts.antt` shows that together they are the tick of the box.
-use Prim.Native.Nat.{ℕ}
 use mathlib.Core.Bool.{true}
 use Rattle.cooling_only_controller_conditioning.specs.Conditioning.{time-suppression}
 use Rattle.cooling_only_controller_airflow.specs.Airflow.{system-requests, alarms}

@@ -15,7 +15,6 @@ use Rattle.cooling_only_controller_conditioning.specs.Conditioning.{active-airf
 use Rattle.cooling_only_controller_airflow.specs.Airflow.{airflow-override, alarms, fresh-alarms}
 use Rattle.cooling_only_controller_airflow.specs.declared.AlarmInput.{AlarmInput}
 use Rattle.cooling_only_controller_airflow.specs.declared.AlarmsState.{AlarmsState}
-use Rattle.cooling_only_controller.specs.declared.ControllerOutput.{ControllerOutput}
 use Rattle.air_box.specs.AirBox.{tick, fresh-box}
 use Rattle.air_box.specs.declared.Tick.{Tick}
 use Rattle.air_box.specs.declared.Start.the-variants.{Plain}

@@ -1,13 +1,12 @@
 -- What the stages of cooling_only_controller_airflow.rs return: the next state beside the output, in that file's order.
 -- A let that has the name of a value of the Rust holds the block's step: its `.output` is the Rust's value, its `.state` the block afterwards.
 -- `delay-on-init` is false in the Rust; a quiet start runs the nine true delays of system requests and alarms with true.
-use mathlib.Core.Bool.{Bool, true, false, not, _&&_}
+use mathlib.Core.Bool.{Bool, false, not, _&&_}
 use lib.IntN.{ℤ, pos}
 use lib.Ieee.{Float}
 use Rattle.f64_helpers.specs.F64.{_⊕_, _⊖_, _⊗_, _⊘_, decimal, zero, if_then_else_}
 use Rattle.f64_helpers.specs.Integers.{_==ᶻ_}
 use Rattle.cdl_recurrences.specs.CdlRecurrences.{buildings-line, clamp, greater-hysteretic, hysteresis, less-hysteretic}
-use Rattle.cdl_recurrences.specs.declared.OptionalTime.{OptionalTime}
 use Rattle.cdl_recurrences.specs.declared.OptionalTime.the-variants.{Absent, At}
 use Rattle.cooling_only_controller_timing.specs.Timing.{sampler-sample, true-delay, step-seconds, fresh-sampler, fresh-true-delay}
 use Rattle.cooling_only_controller_airflow.specs.declared.DamperInput.{DamperInput}

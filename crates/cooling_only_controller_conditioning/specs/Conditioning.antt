@@ -8,7 +8,6 @@ use Rattle.f64_helpers.specs.F64.{_⊕_, _⊖_, _⊗_, _⊘_, _>ᶠ_, decimal, 
 use Rattle.f64_helpers.specs.Helpers.{abs, smaller}
 use Rattle.f64_helpers.specs.Integers.{_==ᶻ_}
 use Rattle.cdl_recurrences.specs.CdlRecurrences.{buildings-line, clamp, greater-hysteretic, hysteresis, less-hysteretic}
-use Rattle.cdl_recurrences.specs.declared.OptionalTime.{OptionalTime}
 use Rattle.cdl_recurrences.specs.declared.OptionalTime.the-variants.{Absent, At}
 use Rattle.cooling_only_controller_timing.specs.Timing.{sampler-sample, unit-delay-sample, true-delay, timer-elapsed, step-seconds, fresh-sampler, fresh-unit-delay, fresh-true-delay, fresh-timer}
 use Rattle.cooling_only_controller_timing.specs.declared.TimerStep.{TimerStep}

@@ -9,7 +9,6 @@ use lib.IntN.{ℤ, pos, negsuc}
 use lib.Dec.{T}
 use lib.Pow.{pow-pos}
 use lib.Ieee.{Float, nan, inf, fin, binary64, up, down, round, fits, lt, eq, isNan}
-use lib.Ieee.Fits.{down-pos}
 use lib.Ieee.Exact.{HasValue}
 use lib.Ieee.Back.{round-whole}
 use Rattle.f64_helpers.specs.Helpers.{floor, ceil, abs, quotient-down, quotient-up, negative, larger, smaller}

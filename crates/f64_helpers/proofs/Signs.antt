@@ -1,9 +1,9 @@
 -- The smaller of two is the larger of the two with their signs turned, turned back. Assumes nothing.
-use mathlib.Core.Path.{_≡_, refl, sym, ap, _∙_, subst}
-use Prim.Native.Nat.{ℕ, _+_, _*_}
+use mathlib.Core.Path.{_≡_, refl, ap, _∙_}
+use Prim.Native.Nat.{ℕ, _*_}
 use native.Mathlib.Nat.{add-comm, zero-mul}
 use mathlib.Core.Bool.{Bool, true, false, not, _&&_, _||_, Bool·beq, cond, Bool·not-not}
-use lib.IntN.{ℤ, pos}
+use lib.IntN.{pos}
 use lib.Dec.{T, ltb, eqb, eqb→eq}
 use lib.Ieee.{Float, nan, inf, fin, up, down, below, level, neg, lt, eq, isNan}
 use lib.Ieee.Fits.{eq→eqb}

@@ -1,14 +1,14 @@
 -- f64 arithmetic on whole numbers is exact: on floats that stand for whole numbers of 0 or more, `add`, `sub`, `lt`, `eq`, `le` and `larger` are those of the numbers. Assumes nothing.
-use mathlib.Core.Path.{_≡_, refl, sym, ap, _∙_, subst, subst₂}
+use mathlib.Core.Path.{_≡_, refl, sym, ap, _∙_, subst}
 use mathlib.Core.Logic.{_↔_}
-use Prim.Native.Nat.{ℕ, zero, suc, _+_, _-_, _*_, _/_, _^_, _≤_, _<_, max}
+use Prim.Native.Nat.{ℕ, suc, _+_, _-_, _*_, _/_, _^_, _≤_, _<_, max}
 use native.Mathlib.Nat.{mul-one, zero-mul, add-mul, mul-assoc, mul-right-comm, mul-comm, mul-pos, zero-lt-suc, mul-le-mul-right, mul-lt-mul-of-pos-right, lt-of-mul-lt-mul-right, le-of-mul-le-mul-right, div-lt-iff-lt-mul, suc-mul, eq-of-mul-eq-mul-right, mul-div-cancel, max-eq-left, max-eq-right, le-of-lt}
 use native.Mathlib.Omega.{arith}
 use mathlib.Core.Bool.{Bool, true, false, not, _&&_, _||_, cond, Bool·beq}
 use lib.IntN.{ℤ, pos}
 use lib.Dec.{T, ltb, leb, eqb, ltb→lt, lt→ltb, leb→le, le→leb, eqb→eq, nltb→le}
-use lib.Ieee.{Float, nan, inf, fin, Format, prec, up, down, round, sum, add, neg, sub, below, level, lt, eq, le, isNan}
-use lib.Ieee.Fits.{down-pos, eq→eqb, and-i, and-l, and-r}
+use lib.Ieee.{Float, nan, inf, fin, Format, prec, up, down, round, sum, add, sub, below, level, lt, eq, le, isNan}
+use lib.Ieee.Fits.{down-pos, eq→eqb, and-i, and-l}
 use lib.Ieee.Exact.{HasValue}
 use lib.Ieee.Back.{round-whole}
 use lib.Ieee.Scale.{round-same}

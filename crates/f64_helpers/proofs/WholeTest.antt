@@ -1,6 +1,6 @@
 -- An f64 is finite with no fraction exactly if it less itself is 0 and it is its own floor. Assumes nothing.
 use mathlib.Core.Path.{_≡_, refl, sym, ap, _∙_, subst}
-use Prim.Native.Nat.{ℕ, _+_, _-_, _*_, _/_, _%_, _<_, _≤_}
+use Prim.Native.Nat.{ℕ, _+_, _-_, _*_, _/_, _%_, _<_}
 use native.Mathlib.Nat.{mul-one, mul-right-comm, mul-pos, sub-self, div-add-mod', eq-of-mul-eq-mul-right, lt-irrefl, mul-div-cancel}
 use native.Mathlib.Omega.{arith}
 use mathlib.Core.Bool.{Bool, true, false, not, _&&_, _||_, Bool·beq, cond, and-true}

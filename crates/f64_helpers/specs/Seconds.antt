@@ -1,7 +1,6 @@
 -- Times as whole numbers of seconds: which f64 stands for which, and what a time is.
 use mathlib.Core.Path.{_≡_}
 use Prim.Native.Nat.{ℕ, _+_, _-_, _*_, _/_, _≤_}
-use mathlib.Core.Bool.{Bool}
 use lib.Dec.{T}
 use lib.Ieee.{Float, nan, inf, fin, up, down}
 

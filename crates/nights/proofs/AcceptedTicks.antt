@@ -1,6 +1,6 @@
 -- What the questions ensure of accepted ticks: each time is a whole number of seconds, and none is before an older one. And how the accepted ticks of a night become a history. Assumes nothing.
 use mathlib.Core.Path.{_≡_, refl, sym, ap, _∙_, subst}
-use mathlib.Core.List.{List, [], _∷_, _++_}
+use mathlib.Core.List.{List, [], _∷_}
 use Prim.Native.Nat.{ℕ, _*_, _/_, _%_, _^_, _≤_}
 use native.Mathlib.Nat.{mul-one, div-add-mod', zero-lt-suc, zero-div}
 use native.Mathlib.Omega.{arith}
@@ -21,7 +21,6 @@ use Rattle.air_box.specs.declared.Refusal.{Refusal}
 use Rattle.air_box.specs.declared.Verdict.{Verdict}
 use Rattle.air_box.specs.declared.Verdict.the-variants.{Refuse}
 use Rattle.nights.specs.Nights.{passes, accepts, accepted-ticks}
-use Rattle.nights.proofs.Histories.{extended}
 
 -- ---- a time that questions 1 and 2 let pass
 pub decimal-whole : (n : ℕ) → n ≤ 2 ^ 53 → Whole (decimal n 1) n

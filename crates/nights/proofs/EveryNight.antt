@@ -1,5 +1,5 @@
 -- Every night, exactly: at each accepted tick the airflow sensor alarm is 3 exactly if the mode is 1 and flow has been high with the fan off for 600 seconds or from the very first accepted tick. By the law of the true delay. Assumes nothing.
-use mathlib.Core.Path.{_≡_, refl, sym, ap, _∙_, subst}
+use mathlib.Core.Path.{_≡_, refl, sym, subst}
 use mathlib.Core.Logic.{_↔_, _⊎_, inl, inr, ⊎-elim, Iff·rfl, Iff·trans, Iff·and}
 use mathlib.Core.List.{List, [], _∷_, _++_, append-assoc}
 use Prim.Native.Nat.{_+_, _≤_}

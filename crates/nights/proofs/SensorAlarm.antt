@@ -23,7 +23,7 @@ use Rattle.air_box.specs.AirBox.{questions, delay-on-init, fresh-box, accepted-
 use Rattle.air_box.specs.declared.Tick.{Tick}
 use Rattle.air_box.specs.declared.AirBox.{AirBox}
 use Rattle.air_box.specs.declared.Start.the-variants.{Plain}
-use Rattle.air_box.specs.declared.Answer.the-variants.{Accepted, Refused}
+use Rattle.air_box.specs.declared.Answer.the-variants.{Refused}
 use Rattle.air_box.specs.declared.Refusal.{Refusal}
 use Rattle.air_box.specs.declared.Verdict.{Verdict}
 use Rattle.air_box.specs.declared.Verdict.the-variants.{Accept, Refuse}

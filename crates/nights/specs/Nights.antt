@@ -9,7 +9,7 @@ use lib.Ieee.{Float}
 use Rattle.f64_helpers.specs.F64.{_⊖_, _⊗_, _>ᶠ_, decimal, if_then_else_}
 use Rattle.cdl_recurrences.specs.CdlRecurrences.{greater-hysteretic}
 use Rattle.cdl_recurrences.specs.declared.OptionalTime.{OptionalTime}
-use Rattle.cdl_recurrences.specs.declared.OptionalTime.the-variants.{Absent, At}
+use Rattle.cdl_recurrences.specs.declared.OptionalTime.the-variants.{At}
 use Rattle.air_box.specs.AirBox.{questions, tick}
 use Rattle.air_box.specs.declared.Tick.{Tick}
 use Rattle.air_box.specs.declared.AirBox.{AirBox}

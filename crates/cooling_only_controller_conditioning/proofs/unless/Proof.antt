@@ -1,6 +1,5 @@
 -- `cooling_only_controller_conditioning::unless` meets its contract. Assumes nothing.
 use lib.Ieee.{ofBits}
-use borrow.Author.Needs.{needs}
 use Rattle.cooling_only_controller_conditioning.proofs.unless.Statement.{statement}
 use Rattle.cooling_only_controller_conditioning.proofs.unless.Tie as tie
 

@@ -1,16 +1,15 @@
 -- `f64_helpers::floor_as_i64` meets its contract. Below 2 ^ 52 the whole part is a float exactly, so it comes back from its float as it was. Assumes nothing.
 use borrow.Author.Needs.{needs}
 use mathlib.Core.Path.{_≡_, sym, ap, _∙_, subst}
-use Prim.Native.Nat.{ℕ, _≤_, _<_, _^_}
+use Prim.Native.Nat.{ℕ, _≤_, _<_}
 use native.Mathlib.Omega.{arith}
 use lib.IntN.{pos}
-use lib.Dec.{T, le→leb}
-use lib.Ieee.{Float, binary64, ofBits, lt, ofInt, toUnsigned, toSigned, inFloat}
+use lib.Dec.{le→leb}
+use lib.Ieee.{Float, binary64, ofBits, ofInt, toUnsigned, toSigned, inFloat}
 use lib.Ieee.Back.{positive-back}
 use mir.Syntax.{w64}
 use mir.Val.{toZ, SFits}
 use mir.Facts.{toZ-ofZ}
-use Rattle.f64_helpers.specs.F64.{zero}
 use Rattle.f64_helpers.specs.Helpers.{floor, as-i64}
 use Rattle.f64_helpers.proofs.Facts.{yes, floor-small, count-small, above-minus-one, below-2-64}
 use Rattle.f64_helpers.proofs.floor_as_i64.Statement.{statement}
