@@ -26,7 +26,7 @@ extern "C" {
 #define AIR_BOX_CO2_OUT_OF_RANGE 6
 #define AIR_BOX_AIRFLOW_OUT_OF_RANGE 7
 
-/* A time, or none. Where `present` is false, `time` is not read. */
+/* A time, or none. Where `present` is false, `time` has no meaning, but it must have been written. */
 typedef struct AirBoxOptionalTime {
     bool present;
     double time;
@@ -144,13 +144,13 @@ AIR_BOX_ASSERT(offsetof(AirBoxControlLoops, heating_near_zero) == 73);
 AIR_BOX_ASSERT(offsetof(AirBoxControlLoops, cooling_delay) == 80);
 AIR_BOX_ASSERT(offsetof(AirBoxControlLoops, heating_delay) == 112);
 
-/* Setpoints. */
+/* Whether the supply cools: the memory of the ventilation setpoints. */
 typedef struct AirBoxSetpoints {
     bool cooling_supply;
 } AirBoxSetpoints;
 AIR_BOX_ASSERT(sizeof(AirBoxSetpoints) == 1);
 
-/* Zone states. */
+/* The memories by which the zone is told to be heating, cooling or in the dead band. */
 typedef struct AirBoxZoneStates {
     bool heating_signal;
     bool cooling_signal;
@@ -275,7 +275,7 @@ AIR_BOX_ASSERT(sizeof(AirBoxAnswer) == 88);
 AIR_BOX_ASSERT(offsetof(AirBoxAnswer, output) == 8);
 
 /* The time of the last accepted tick, the start choice, and the answer of the last tick.
-   Before the first tick the number is 0 and the outputs are zeros. */
+   Before the first tick the number is 0 and the outputs are zeros, which answer no tick. */
 typedef struct AirBoxLast {
     AirBoxOptionalTime time;
     bool quiet;
@@ -285,7 +285,7 @@ AIR_BOX_ASSERT(sizeof(AirBoxLast) == 112);
 AIR_BOX_ASSERT(offsetof(AirBoxLast, quiet) == 16);
 AIR_BOX_ASSERT(offsetof(AirBoxLast, answer) == 24);
 
-/* A box, in the order in which a tick goes through it. */
+/* A box. The stages stand in the order in which a tick goes through them. */
 typedef struct AirBox {
     AirBoxTimeSuppression time_suppression;
     AirBoxAirflow airflow;

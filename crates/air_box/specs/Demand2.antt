@@ -1,5 +1,5 @@
 -- Demand 2. On every accepted tick, whatever the box holds, all ten outputs and each field of the next state are those of `controller-output`, by one equation for the whole answer.
--- `controller-output` follows the Rust's `ControllerState::output` stage by stage, with document 01's rules for the helpers. For a box grown from a start that is what the Rust gives, bit for bit (docs/DIFFERENCES.md).
+-- `controller-output` follows the Rust's `ControllerState::output` stage by stage, with document 01's rules for the helpers. For a plain start that is what the Rust gives on accepted ticks; this is argued and run, not proved (docs/DIFFERENCES.md).
 -- The method `AirBox::tick` returns `tick` of the box and the tick, by its contract.
 use mathlib.Core.Path.{_≡_}
 use lib.Dec.{T}

@@ -162,7 +162,7 @@ pub fn questions(last_time: OptionalTime, tick: Tick) -> Verdict
 }
 
 // Whether x lies from low to high, the ends included. A NaN does not.
-pub fn within(x: f64, low: f64, high: f64) -> bool
+fn within(x: f64, low: f64, high: f64) -> bool
     ensures { λ r. ⌜ r ≡ AirBoxes.within x low high ⌝ }
 {
     (x >= low) & (x <= high)

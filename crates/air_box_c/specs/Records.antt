@@ -1,4 +1,4 @@
--- The records of the C interface: what box each stands for (`open`), and the record of a box (`shut`). An absent time is the flag false; of such a record the time is not read, and `shut` writes 0 there.
+-- The records of the C interface: what box each stands for (`open`), and the record of a box (`shut`). An absent time is the flag false; the number beside it then has no meaning, and `shut` writes 0 there.
 use Prim.Native.Nat.{ℕ}
 use mathlib.Core.Path.{_≡_}
 use mathlib.Core.Bool.{Bool, true, false}
@@ -38,7 +38,7 @@ use Rattle.air_box_c.specs.declared.SystemRequestsC.{SystemRequestsC}
 use Rattle.air_box_c.specs.declared.AlarmsC.{AlarmsC}
 use Rattle.air_box_c.specs.declared.AirflowC.{AirflowC}
 use Rattle.air_box_c.specs.declared.AnswerC.{AnswerC}
-use Rattle.air_box_c.specs.declared.LastC.{LastC}
+use Rattle.air_box_c.specs.declared.LastTickC.{LastTickC}
 use Rattle.air_box_c.specs.declared.AirBoxC.{AirBoxC}
 
 unfoldable pub open-time : OptionalTimeC → OptionalTime
@@ -275,7 +275,7 @@ shut-answer (Accepted output) = record { number = 0; output = output }
 shut-answer (Refused reason) = record { number = refusal-number reason; output = zero-output }
 
 -- the record of a state, with what stands beside it
-abbrev pub shut-state : ControllerState → LastC → AirBoxC
+abbrev pub shut-state : ControllerState → LastTickC → AirBoxC
 shut-state s last-part = record {
   «time_suppression» = shut-time-suppression (s .«time_suppression»);
   airflow = shut-airflow s;
@@ -293,7 +293,7 @@ verdict-number Accept = 0
 verdict-number (Refuse reason) = refusal-number reason
 
 -- the record after a refused tick: the box as it was, and the number
-abbrev pub last-refused : LastC → ℕ → LastC
+abbrev pub last-refused : LastTickC → ℕ → LastTickC
 last-refused c number = record { time = c .time; quiet = c .quiet; answer = record { number = number; output = zero-output } }
 
 abbrev pub refused : AirBoxC → ℕ → AirBoxC
@@ -305,7 +305,7 @@ refused c number = record {
   last = last-refused (c .last) number;
 }
 
--- the record after a tick, by what the questions decide: that of the next box, or the old one, every bit, with the number
+-- the record after a tick, by what the questions decide: that of the next box, or the old one, every field, with the number
 abbrev pub decided-record : Verdict → AirBoxC → Tick → AirBoxC
 decided-record Accept c k = shut-box (accepted-tick (open-box c) k)
 decided-record (Refuse reason) c k = refused c (refusal-number reason)
@@ -320,13 +320,13 @@ fresh-record quiet = shut-state fresh-controller (record { time = shut-time Abse
 abbrev pub OpenShut : Type 0
 OpenShut = (s : AirBoxStep) → open-box (shut-box s) ≡ s .state
 
--- the record `after` stands for the box that the tick gives from the box of `before`, and holds the tick's answer; no bit of it is left open
+-- the record `after` stands for the box that the tick gives from the box of `before`, and holds the tick's answer; every field of it is settled, a NaN as being one
 pub record Ticked (before : AirBoxC) (k : Tick) (after : AirBoxC) : Type 0 where
   pub next-box : open-box after ≡ tick (open-box before) k .state
   pub next-answer : after .last .answer ≡ shut-answer (tick (open-box before) k .answer)
-  pub every-bit : after ≡ decided-record (questions (open-time (before .last .time)) k) before k
+  pub every-field : after ≡ decided-record (questions (open-time (before .last .time)) k) before k
 
--- the record r stands for a box that has had no tick; no bit of it is left open
+-- the record r stands for a box that has had no tick; every field of it is settled
 pub record Fresh (quiet : Bool) (r : AirBoxC) : Type 0 where
   pub box : open-box r ≡ fresh-box (start-of quiet)
-  pub every-bit : r ≡ fresh-record quiet
+  pub every-field : r ≡ fresh-record quiet

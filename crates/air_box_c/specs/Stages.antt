@@ -11,58 +11,58 @@ use Rattle.air_box_c.specs.declared.TimeSuppressionC.{TimeSuppressionC}
 use Rattle.air_box_c.specs.declared.AirflowC.{AirflowC}
 use Rattle.air_box_c.specs.declared.SystemRequestsC.{SystemRequestsC}
 use Rattle.air_box_c.specs.declared.AlarmsC.{AlarmsC}
-use Rattle.air_box_c.specs.declared.LastC.{LastC}
-use Rattle.air_box_c.specs.declared.Asked.{Asked}
-use Rattle.air_box_c.specs.declared.Begun.{Begun}
-use Rattle.air_box_c.specs.declared.Suppressed.{Suppressed}
+use Rattle.air_box_c.specs.declared.LastTickC.{LastTickC}
+use Rattle.air_box_c.specs.declared.Questioned.{Questioned}
+use Rattle.air_box_c.specs.declared.TickStart.{TickStart}
+use Rattle.air_box_c.specs.declared.AfterSuppression.{AfterSuppression}
 use Rattle.air_box_c.specs.declared.SuppressionTick.{SuppressionTick}
-use Rattle.air_box_c.specs.declared.Aired.{Aired}
+use Rattle.air_box_c.specs.declared.AfterDampers.{AfterDampers}
 use Rattle.air_box_c.specs.declared.AirflowTick.{AirflowTick}
-use Rattle.air_box_c.specs.declared.Requested.{Requested}
+use Rattle.air_box_c.specs.declared.AfterRequests.{AfterRequests}
 use Rattle.air_box_c.specs.declared.RequestsTick.{RequestsTick}
-use Rattle.air_box_c.specs.declared.Alarmed.{Alarmed}
+use Rattle.air_box_c.specs.declared.AfterAlarms.{AfterAlarms}
 use Rattle.air_box_c.specs.declared.AlarmsTick.{AlarmsTick}
 
 -- the questions
-abbrev pub asked : LastC → Tick → Asked
-asked c k = record { number = verdict-number (questions (open-time (c .time)) k); next = record { tick = k; quiet = c .quiet } }
+abbrev pub questioned : LastTickC → Tick → Questioned
+questioned c k = record { number = verdict-number (questions (open-time (c .time)) k); next = record { tick = k; quiet = c .quiet } }
 
 -- time suppression
-abbrev pub suppression-tick : TimeSuppressionC → Begun → SuppressionTick
-suppression-tick c begun =
-    let k = begun .tick in
+abbrev pub suppression-tick : TimeSuppressionC → TickStart → SuppressionTick
+suppression-tick c start =
+    let k = start .tick in
     let step = time-suppression (open-time-suppression c) (k .t) (k .input .«cooling_setpoint») (k .input .«zone_temperature») in
-    record { state = shut-time-suppression (step .state); next = record { begun = begun; «after_suppression» = step .output } }
+    record { state = shut-time-suppression (step .state); next = record { start = start; «after_suppression» = step .output } }
 
 -- from the control loops to the damper
-abbrev pub airflow-ticked : Suppressed → AirflowSteps → AirflowTick
-airflow-ticked suppressed steps =
+abbrev pub airflow-ticked : AfterSuppression → AirflowSteps → AirflowTick
+airflow-ticked suppression steps =
     record {
       state = record { «control_loops» = shut-control-loops (steps .loops .state); setpoints = steps .setpoints .state; «zone_states» = steps .zone .state; dampers = shut-damper (steps .damper .state) };
-      next = record { suppressed = suppressed; loops = steps .loops .output; flows = steps .setpoints .output; damper = steps .damper .output };
+      next = record { suppression = suppression; loops = steps .loops .output; flows = steps .setpoints .output; damper = steps .damper .output };
     }
 
-abbrev pub airflow-tick : AirflowC → Suppressed → AirflowTick
-airflow-tick c suppressed =
-    let k = suppressed .begun .tick in
-    airflow-ticked suppressed (airflow-steps (k .t) (k .input) (open-control-loops (c .«control_loops»)) (c .setpoints) (c .«zone_states») (open-damper (c .dampers)))
+abbrev pub airflow-tick : AirflowC → AfterSuppression → AirflowTick
+airflow-tick c suppression =
+    let k = suppression .start .tick in
+    airflow-ticked suppression (airflow-steps (k .t) (k .input) (open-control-loops (c .«control_loops»)) (c .setpoints) (c .«zone_states») (open-damper (c .dampers)))
 
 -- the system requests
-abbrev pub requests-tick : SystemRequestsC → Aired → RequestsTick
-requests-tick c aired =
-    let begun = aired .suppressed .begun in
-    let wanted = request-input (begun .tick .input) (aired .suppressed .«after_suppression») (aired .loops) (aired .damper) in
-    let step = system-requests (open-system-requests c) (begun .tick .t) wanted (begun .quiet) in
-    record { state = shut-system-requests (step .state); next = record { aired = aired; requests = step .output } }
+abbrev pub requests-tick : SystemRequestsC → AfterDampers → RequestsTick
+requests-tick c airflow =
+    let start = airflow .suppression .start in
+    let wanted = request-input (start .tick .input) (airflow .suppression .«after_suppression») (airflow .loops) (airflow .damper) in
+    let step = system-requests (open-system-requests c) (start .tick .t) wanted (start .quiet) in
+    record { state = shut-system-requests (step .state); next = record { airflow = airflow; requests = step .output } }
 
 -- the alarms, and the ten outputs
-abbrev pub alarms-tick : AlarmsC → Requested → AlarmsTick
-alarms-tick c requested =
-    let aired = requested .aired in
-    let begun = aired .suppressed .begun in
-    let step = alarms (open-alarms c) (begun .tick .t) (alarm-input (begun .tick .input) (aired .damper)) (begun .quiet) in
-    record { state = shut-alarms (step .state); next = record { t = begun .tick .t; output = outputs (aired .damper) (aired .flows) (requested .requests) (step .output) } }
+abbrev pub alarms-tick : AlarmsC → AfterRequests → AlarmsTick
+alarms-tick c after =
+    let airflow = after .airflow in
+    let start = airflow .suppression .start in
+    let step = alarms (open-alarms c) (start .tick .t) (alarm-input (start .tick .input) (airflow .damper)) (start .quiet) in
+    record { state = shut-alarms (step .state); next = record { t = start .tick .t; output = outputs (airflow .damper) (airflow .flows) (after .requests) (step .output) } }
 
 -- the time and the answer of an accepted tick
-abbrev pub last-accepted : LastC → Alarmed → LastC
+abbrev pub last-accepted : LastTickC → AfterAlarms → LastTickC
 last-accepted c done = record { time = record { present = true; time = done .t }; quiet = c .quiet; answer = record { number = 0; output = done .output } }

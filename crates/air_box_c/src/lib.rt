@@ -32,7 +32,7 @@ use cooling_only_controller_timing::UnitDelayState;
 
 // A record for each stage record that holds a time. `open` gives the state that a record stands for, `shut` the record of a state, and `fresh` the record of the fresh state.
 
-// `OptionalTime`: whether there is a time, and the time. Where there is none, `time` is not read.
+// `OptionalTime`: whether there is a time, and the time. Where there is none, `time` has no meaning.
 #[repr(C)]
 pub struct OptionalTimeC {
     pub present: bool,
@@ -651,56 +651,56 @@ fn zero_output() -> ControllerOutput
 
 // Beside the state: the time of the last accepted tick, the start choice, and the answer of the last tick.
 #[repr(C)]
-pub struct LastC {
+pub struct LastTickC {
     pub time: OptionalTimeC,
     pub quiet: bool,
     pub answer: AnswerC,
 }
 
-// `AirBox`, with the answer of its last tick, in the order in which a tick goes through it.
+// `AirBox`, with the answer of its last tick. The stages stand in the order in which a tick goes through them.
 #[repr(C)]
 pub struct AirBoxC {
     pub time_suppression: TimeSuppressionC,
     pub airflow: AirflowC,
     pub system_requests: SystemRequestsC,
     pub alarms: AlarmsC,
-    pub last: LastC,
+    pub last: LastTickC,
 }
 
-// A tick is run part by part, each part read, run and stored in its place: a record that is copied out and in as a whole costs more than the controller does. What a stage knows of those before it is handed on.
+// A tick is run part by part, in place: the questions are asked of `last`, then each part is read, run and stored before the next, and `last` is stored at the end. The record copied out and in as a whole costs more. What a stage knows of those before it is handed on.
 
 // The number of the first question that gets a "no", 0 where none does, and what the stages begin with.
-pub struct Asked {
-    pub number: u8,
-    pub next: Begun,
+struct Questioned {
+    number: u8,
+    next: TickStart,
 }
 
-pub struct Begun {
-    pub tick: Tick,
-    pub quiet: bool,
+struct TickStart {
+    tick: Tick,
+    quiet: bool,
 }
 
-impl LastC {
-    fn ask(self, tick: Tick) -> Asked
-        ensures { λ r. ⌜ r ≡ Stages.asked self tick ⌝ }
+impl LastTickC {
+    fn question(self, tick: Tick) -> Questioned
+        ensures { λ r. ⌜ r ≡ Stages.questioned self tick ⌝ }
     {
         let last_time = self.time.open();
         let verdict = air_box::questions(last_time, tick);
         let number = verdict_number(verdict);
-        Asked {
+        Questioned {
             number,
-            next: Begun {
+            next: TickStart {
                 tick,
                 quiet: self.quiet,
             },
         }
     }
 
-    fn accepted(self, done: Alarmed) -> LastC
+    fn accepted(self, done: AfterAlarms) -> LastTickC
         ensures { λ r. ⌜ r ≡ Stages.last-accepted self done ⌝ }
     {
         let output = done.output;
-        LastC {
+        LastTickC {
             time: OptionalTimeC {
                 present: true,
                 time: done.t,
@@ -710,12 +710,12 @@ impl LastC {
         }
     }
 
-    fn refused(self, number: u8) -> LastC
+    fn refused(self, number: u8) -> LastTickC
         ensures { λ r. ⌜ r ≡ Records.last-refused self number ⌝ }
     {
         let time = self.time;
         let output = zero_output();
-        LastC {
+        LastTickC {
             time,
             quiet: self.quiet,
             answer: AnswerC { number, output },
@@ -732,53 +732,53 @@ fn verdict_number(verdict: Verdict) -> u8
     }
 }
 
-pub struct SuppressionTick {
-    pub state: TimeSuppressionC,
-    pub next: Suppressed,
+struct SuppressionTick {
+    state: TimeSuppressionC,
+    next: AfterSuppression,
 }
 
-pub struct Suppressed {
-    pub begun: Begun,
-    pub after_suppression: bool,
+struct AfterSuppression {
+    start: TickStart,
+    after_suppression: bool,
 }
 
 impl TimeSuppressionC {
-    fn tick(self, begun: Begun) -> SuppressionTick
-        ensures { λ r. ⌜ r ≡ Stages.suppression-tick self begun ⌝ }
+    fn tick(self, start: TickStart) -> SuppressionTick
+        ensures { λ r. ⌜ r ≡ Stages.suppression-tick self start ⌝ }
     {
-        let tick = begun.tick;
+        let tick = start.tick;
         let input = tick.input;
         let s = self.open();
         let step = s.output(tick.t, input.cooling_setpoint, input.zone_temperature);
         let state = TimeSuppressionC::shut(step.state);
         SuppressionTick {
             state,
-            next: Suppressed {
-                begun,
+            next: AfterSuppression {
+                start,
                 after_suppression: step.output,
             },
         }
     }
 }
 
-pub struct AirflowTick {
-    pub state: AirflowC,
-    pub next: Aired,
+struct AirflowTick {
+    state: AirflowC,
+    next: AfterDampers,
 }
 
-pub struct Aired {
-    pub suppressed: Suppressed,
-    pub loops: ControlLoopOutput,
-    pub flows: SetpointOutput,
-    pub damper: DamperOutput,
+struct AfterDampers {
+    suppression: AfterSuppression,
+    loops: ControlLoopOutput,
+    flows: SetpointOutput,
+    damper: DamperOutput,
 }
 
 impl AirflowC {
-    fn tick(self, suppressed: Suppressed) -> AirflowTick
-        ensures { λ r. ⌜ r ≡ Stages.airflow-tick self suppressed ⌝ }
+    fn tick(self, suppression: AfterSuppression) -> AirflowTick
+        ensures { λ r. ⌜ r ≡ Stages.airflow-tick self suppression ⌝ }
     {
-        let begun = suppressed.begun;
-        let tick = begun.tick;
+        let start = suppression.start;
+        let tick = start.tick;
         let input = tick.input;
         let control_loops = self.control_loops.open();
         let setpoints = self.setpoints;
@@ -792,13 +792,13 @@ impl AirflowC {
             zone_states,
             dampers,
         );
-        airflow_tick(suppressed, steps)
+        airflow_ticked(suppression, steps)
     }
 }
 
 // The part after the tick and what is handed on, put together.
-fn airflow_tick(suppressed: Suppressed, steps: AirflowSteps) -> AirflowTick
-    ensures { λ r. ⌜ r ≡ Stages.airflow-ticked suppressed steps ⌝ }
+fn airflow_ticked(suppression: AfterSuppression, steps: AirflowSteps) -> AirflowTick
+    ensures { λ r. ⌜ r ≡ Stages.airflow-ticked suppression steps ⌝ }
 {
     let loops = steps.loops;
     let flows = steps.setpoints;
@@ -818,8 +818,8 @@ fn airflow_tick(suppressed: Suppressed, steps: AirflowSteps) -> AirflowTick
             zone_states,
             dampers,
         },
-        next: Aired {
-            suppressed,
+        next: AfterDampers {
+            suppression,
             loops: loops_output,
             flows: flows_output,
             damper: damper_output,
@@ -827,74 +827,74 @@ fn airflow_tick(suppressed: Suppressed, steps: AirflowSteps) -> AirflowTick
     }
 }
 
-pub struct RequestsTick {
-    pub state: SystemRequestsC,
-    pub next: Requested,
+struct RequestsTick {
+    state: SystemRequestsC,
+    next: AfterRequests,
 }
 
-pub struct Requested {
-    pub aired: Aired,
-    pub requests: SystemRequestOutput,
+struct AfterRequests {
+    airflow: AfterDampers,
+    requests: SystemRequestOutput,
 }
 
 impl SystemRequestsC {
-    fn tick(self, aired: Aired) -> RequestsTick
-        ensures { λ r. ⌜ r ≡ Stages.requests-tick self aired ⌝ }
+    fn tick(self, airflow: AfterDampers) -> RequestsTick
+        ensures { λ r. ⌜ r ≡ Stages.requests-tick self airflow ⌝ }
     {
-        let suppressed = aired.suppressed;
-        let begun = suppressed.begun;
-        let tick = begun.tick;
+        let suppression = airflow.suppression;
+        let start = suppression.start;
+        let tick = start.tick;
         let input = tick.input;
-        let loops = aired.loops;
-        let damper = aired.damper;
+        let loops = airflow.loops;
+        let damper = airflow.damper;
         let s = self.open();
-        let wanted = cooling_only_controller::request_input(
+        let request_input = cooling_only_controller::request_input(
             input,
-            suppressed.after_suppression,
+            suppression.after_suppression,
             loops,
             damper,
         );
-        let step = s.output(tick.t, wanted, begun.quiet);
+        let step = s.output(tick.t, request_input, start.quiet);
         let state = SystemRequestsC::shut(step.state);
         let requests = step.output;
         RequestsTick {
             state,
-            next: Requested { aired, requests },
+            next: AfterRequests { airflow, requests },
         }
     }
 }
 
-pub struct AlarmsTick {
-    pub state: AlarmsC,
-    pub next: Alarmed,
+struct AlarmsTick {
+    state: AlarmsC,
+    next: AfterAlarms,
 }
 
-pub struct Alarmed {
-    pub t: f64,
-    pub output: ControllerOutput,
+struct AfterAlarms {
+    t: f64,
+    output: ControllerOutput,
 }
 
 impl AlarmsC {
-    fn tick(self, requested: Requested) -> AlarmsTick
-        ensures { λ r. ⌜ r ≡ Stages.alarms-tick self requested ⌝ }
+    fn tick(self, after: AfterRequests) -> AlarmsTick
+        ensures { λ r. ⌜ r ≡ Stages.alarms-tick self after ⌝ }
     {
-        let aired = requested.aired;
-        let suppressed = aired.suppressed;
-        let begun = suppressed.begun;
-        let tick = begun.tick;
+        let airflow = after.airflow;
+        let suppression = airflow.suppression;
+        let start = suppression.start;
+        let tick = start.tick;
         let input = tick.input;
-        let damper = aired.damper;
-        let flows = aired.flows;
-        let requests = requested.requests;
+        let damper = airflow.damper;
+        let flows = airflow.flows;
+        let requests = after.requests;
         let s = self.open();
-        let wanted = cooling_only_controller::alarm_input(input, damper);
-        let step = s.output(tick.t, wanted, begun.quiet);
+        let alarm_input = cooling_only_controller::alarm_input(input, damper);
+        let step = s.output(tick.t, alarm_input, start.quiet);
         let state = AlarmsC::shut(step.state);
         let alarms = step.output;
-        let output = cooling_only_controller::controller_output(damper, flows, requests, alarms);
+        let output = cooling_only_controller::outputs(damper, flows, requests, alarms);
         AlarmsTick {
             state,
-            next: Alarmed { t: tick.t, output },
+            next: AfterAlarms { t: tick.t, output },
         }
     }
 }
@@ -915,7 +915,7 @@ pub extern "C" fn air_box_fresh(quiet: bool) -> AirBoxC
         airflow,
         system_requests,
         alarms,
-        last: LastC {
+        last: LastTickC {
             time,
             quiet,
             answer: AnswerC { number: 0, output },
@@ -928,19 +928,19 @@ pub extern "C" fn air_box_fresh(quiet: bool) -> AirBoxC
 pub extern "C" fn air_box_tick(b: &mut AirBoxC, tick: &Tick)
     ensures { λ _. ⌜ Records.Ticked (now (b .entry)) (now (tick .entry)) (now (b .exit)) ⌝ }
 {
-    let asked = b.last.ask(*tick);
-    if asked.number == 0 {
-        let suppressed = b.time_suppression.tick(asked.next);
-        b.time_suppression = suppressed.state;
-        let aired = b.airflow.tick(suppressed.next);
-        b.airflow = aired.state;
-        let requested = b.system_requests.tick(aired.next);
-        b.system_requests = requested.state;
-        let alarmed = b.alarms.tick(requested.next);
-        b.alarms = alarmed.state;
-        b.last = b.last.accepted(alarmed.next);
+    let questioned = b.last.question(*tick);
+    if questioned.number == 0 {
+        let suppression = b.time_suppression.tick(questioned.next);
+        b.time_suppression = suppression.state;
+        let airflow = b.airflow.tick(suppression.next);
+        b.airflow = airflow.state;
+        let requests = b.system_requests.tick(airflow.next);
+        b.system_requests = requests.state;
+        let alarms = b.alarms.tick(requests.next);
+        b.alarms = alarms.state;
+        b.last = b.last.accepted(alarms.next);
     } else {
-        b.last = b.last.refused(asked.number);
+        b.last = b.last.refused(questioned.number);
     }
 }
 

@@ -182,7 +182,7 @@ fn controller_step(
     let flows = setpoints.output;
     let levels = requests.output;
     let alarm = alarms.output;
-    let output = controller_output(flow, flows, levels, alarm);
+    let output = outputs(flow, flows, levels, alarm);
     ControllerStep {
         state: ControllerState {
             time_suppression,
@@ -264,7 +264,7 @@ pub fn alarm_input(input: ControllerInput, damper: DamperOutput) -> AlarmInput
     }
 }
 
-pub fn controller_output(
+pub fn outputs(
     damper: DamperOutput,
     setpoints: SetpointOutput,
     requests: SystemRequestOutput,

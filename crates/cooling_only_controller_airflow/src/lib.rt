@@ -120,7 +120,7 @@ fn airflow_setpoint(input: DamperInput, supply_warm: bool) -> f64
 }
 
 // Override 1 closes, 2 and 3 ask for the design maximum and minimum; any other index leaves the base.
-pub fn airflow_override(index: i64, base: f64) -> f64
+fn airflow_override(index: i64, base: f64) -> f64
     ensures { λ r. ⌜ r ≡ Airflow.airflow-override index base ⌝ }
 {
     if index == 1 {
@@ -135,7 +135,7 @@ pub fn airflow_override(index: i64, base: f64) -> f64
 }
 
 // Override 1 closes, 2 opens; any other index leaves the PI's output.
-pub fn damper_override(index: i64, pid_output: f64) -> f64
+fn damper_override(index: i64, pid_output: f64) -> f64
     ensures { λ r. ⌜ r ≡ Airflow.damper-override index «pid_output» ⌝ }
 {
     if index == 1 {
@@ -367,7 +367,7 @@ fn system_requests_step(
     }
 }
 
-pub fn request_level(three: bool, two: bool, one: bool) -> i64
+fn request_level(three: bool, two: bool, one: bool) -> i64
     ensures { λ r. ⌜ r ≡ Airflow.request-level three two one ⌝ }
 {
     if three {

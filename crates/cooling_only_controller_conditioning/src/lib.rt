@@ -229,7 +229,7 @@ fn time_suppression_state(
 }
 
 // Seconds for which requests wait: 540 for each kelvin, at most 1800.
-pub fn suppression_window(captured_setpoint: f64, captured_zone: f64) -> f64
+fn suppression_window(captured_setpoint: f64, captured_zone: f64) -> f64
     ensures { λ r. ⌜ r ≡ Conditioning.suppression-window «captured_setpoint» «captured_zone» ⌝ }
 {
     f64_helpers::min(

@@ -224,8 +224,3 @@ module _ (delay-time : Float) (d : ℕ) (reach : Reach delay-time d) where
 pub true-delay-law : (delay-time : Float) → NotNegative delay-time → (delay-on-init : Bool) (k : Sample) (h : List Sample) → Timed (k ∷ h)
     → T (true-delay-after delay-time delay-on-init (k ∷ h) .held) ↔ TrueFor (seconds-up delay-time) delay-on-init (seconds (k .time)) (k ∷ h)
 true-delay-law delay-time p = true-for-law delay-time (seconds-up delay-time) (reach-any delay-time p)
-
--- the same for a delay of d whole seconds
-pub true-delay-law-whole : (delay-time : Float) (d : ℕ) → Whole delay-time d → (delay-on-init : Bool) (k : Sample) (h : List Sample) → Timed (k ∷ h)
-    → T (true-delay-after delay-time delay-on-init (k ∷ h) .held) ↔ TrueFor d delay-on-init (seconds (k .time)) (k ∷ h)
-true-delay-law-whole delay-time d w = true-for-law delay-time d (whole-reached delay-time d w)

@@ -36,7 +36,7 @@ impl SamplerState {
     {
         if self.initialized {
             let next = cdl_recurrences::sample_due(t, self.t0, period, self.last_index);
-            let last_index = last_sampled(next.due, next.index, self.last_index);
+            let last_index = last_sample_index(next.due, next.index, self.last_index);
             let held = f64_helpers::choose(next.due, input, self.held);
             let state = SamplerState {
                 initialized: true,
@@ -49,7 +49,7 @@ impl SamplerState {
                 output: held,
             }
         } else {
-            let state = first_sampled(t, input, period);
+            let state = sampler_first_sample(t, input, period);
             SamplerStep {
                 state,
                 output: input,
@@ -59,14 +59,14 @@ impl SamplerState {
 }
 
 // The index of the last sample: this one's where it is due.
-fn last_sampled(due: bool, index: i64, last_index: i64) -> i64
+fn last_sample_index(due: bool, index: i64, last_index: i64) -> i64
     ensures { λ r. ⌜ r ≡ (if due then index else «last_index») ⌝ }
 {
     if due { index } else { last_index }
 }
 
 // The first tick starts the grid and is sampled.
-fn first_sampled(t: f64, input: f64, period: f64) -> SamplerState
+fn sampler_first_sample(t: f64, input: f64, period: f64) -> SamplerState
     ensures { λ r. ⌜ r ≡ Timing.sampler-first-sample t input period ⌝ }
 {
     let t0 = cdl_recurrences::initial_sample_time(t, period);
@@ -112,7 +112,7 @@ impl UnitDelayState {
     {
         if self.initialized {
             let next = cdl_recurrences::sample_due(t, self.t0, period, self.last_index);
-            let last_index = last_sampled(next.due, next.index, self.last_index);
+            let last_index = last_sample_index(next.due, next.index, self.last_index);
             let held = f64_helpers::choose(next.due, self.staged, self.held);
             let staged = f64_helpers::choose(next.due, input, self.staged);
             let state = UnitDelayState {

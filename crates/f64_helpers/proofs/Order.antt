@@ -160,6 +160,3 @@ le-lt a b x h k = less-if-not a x (le-numbers a b h .0) (le-numbers b x (lt→le
 
 pub lt-le : (a x y : Float) → T (lt a x) → T (le x y) → T (lt a y)
 lt-le a x y h k = less-if-not a y (le-numbers a x (lt→le a x h) .0) (le-numbers x y k .1) (λ l. not-both a x h (le-trans x y a k l))
-
-pub lt-trans : (a b c : Float) → T (lt a b) → T (lt b c) → T (lt a c)
-lt-trans a b c h k = le-lt a b c (lt→le a b h) k

@@ -12,7 +12,7 @@ unfolding open-box open-time
 returns c = record {
   box = rw (c .before .absent .ensures, c .before .before .fresh4 .ensures, c .before .before .before .fresh3 .ensures, c .before .before .before .before .fresh2 .ensures, c .before .before .before .before .before .fresh .ensures)
       (λ i. record { state = open-shut-controller fresh-controller (fresh-record (c .before .before .before .before .before .before .args .quiet) .last) i; «last_time» = Absent; start = start-of (c .before .before .before .before .before .before .args .quiet) });
-  every-bit = rw (c .zero-output .ensures, c .before .absent .ensures, c .before .before .fresh4 .ensures, c .before .before .before .fresh3 .ensures, c .before .before .before .before .fresh2 .ensures, c .before .before .before .before .before .fresh .ensures);
+  every-field = rw (c .zero-output .ensures, c .before .absent .ensures, c .before .before .fresh4 .ensures, c .before .before .before .fresh3 .ensures, c .before .before .before .before .fresh2 .ensures, c .before .before .before .before .before .fresh .ensures);
 }
 
 pub air-box-fresh-spec : {M : Type 1} → statement M

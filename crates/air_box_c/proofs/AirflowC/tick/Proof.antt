@@ -4,7 +4,7 @@ use Rattle.air_box_c.proofs.AirflowC.tick.Statement.{statement}
 use Rattle.air_box_c.proofs.AirflowC.tick.Tie as tie
 
 returns : tie.Need-returns
-returns c = rw (c .airflow-tick .ensures, c .before .airflow-steps .ensures, c .before .before .open2 .ensures, c .before .before .before .before .before .«open» .ensures)
+returns c = rw (c .airflow-ticked .ensures, c .before .airflow-steps .ensures, c .before .before .open2 .ensures, c .before .before .before .before .before .«open» .ensures)
 
 pub tick-spec : {M : Type 1} → statement M
 tick-spec =

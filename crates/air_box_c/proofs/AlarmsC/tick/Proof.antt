@@ -4,7 +4,7 @@ use Rattle.air_box_c.proofs.AlarmsC.tick.Statement.{statement}
 use Rattle.air_box_c.proofs.AlarmsC.tick.Tie as tie
 
 returns : tie.Need-returns
-returns c = rw (c .controller-output .ensures, c .before .before .shut .ensures, c .before .before .before .output .ensures, c .before .before .before .before .alarm-input .ensures, c .before .before .before .before .before .«open» .ensures)
+returns c = rw (c .outputs .ensures, c .before .before .shut .ensures, c .before .before .before .output .ensures, c .before .before .before .before .alarm-input .ensures, c .before .before .before .before .before .«open» .ensures)
 
 pub tick-spec : {M : Type 1} → statement M
 tick-spec =

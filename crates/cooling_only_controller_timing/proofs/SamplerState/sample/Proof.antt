@@ -28,14 +28,14 @@ returns c =
     let next = d .sample-due .result in
     let last = toZ-ofZ {w = w64} {z = a .self .«last_index»} (record { sfits = d .before .struct-told .given .1 .1 .0 .1 }) in
     let index = toZ-ofZ {w = w64} {z = next .index} (record { sfits = c .before .before .before .struct-told2 .given .1 .0 .1 }) in
-    let kept = toZ-ofZ {w = w64} {z = c .before .last-sampled .result} (record { sfits = c .before .last-sampled .ok }) in
+    let kept = toZ-ofZ {w = w64} {z = c .before .last-sample-index .result} (record { sfits = c .before .last-sample-index .ok }) in
     let due = rw last at (d .sample-due .ensures) in
-    let is = rw (index, last) at (c .before .last-sampled .ensures) in
+    let is = rw (index, last) at (c .before .last-sample-index .ensures) in
     rw (kept, is, c .choose .ensures, d .before .before .if1 .taken, ← due, by-due (a .self) (a .input) (next .index) (next .due))
 
 returns-2 : tie.Need-returns-2
 unfolding sampler-sample sampler-after-sample sampler-output
-returns-2 c = rw (c .first-sampled .ensures, c .before .if1 .left)
+returns-2 c = rw (c .sampler-first-sample .ensures, c .before .if1 .left)
 
 pub sample-spec : {M : Type 1} → statement M
 sample-spec =

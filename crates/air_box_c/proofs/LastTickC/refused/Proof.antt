@@ -1,7 +1,7 @@
--- `air_box_c::LastC::refused` meets its contract. Assumes nothing.
+-- `air_box_c::LastTickC::refused` meets its contract. Assumes nothing.
 use borrow.Author.Needs.{needs}
-use Rattle.air_box_c.proofs.LastC.refused.Statement.{statement}
-use Rattle.air_box_c.proofs.LastC.refused.Tie as tie
+use Rattle.air_box_c.proofs.LastTickC.refused.Statement.{statement}
+use Rattle.air_box_c.proofs.LastTickC.refused.Tie as tie
 
 returns : tie.Need-returns
 returns c = rw (c .zero-output .ensures)
