@@ -1,7 +1,7 @@
 //! `speed FILE ROUNDS [port|rust]`: runs the accepted ticks of FILE by the port's archive and by the published Rust, in one
 //! run, and prints the time a tick of each. With a third word only that side runs, for a count of its instructions.
 
-use std::{env, fs, hint::black_box, time::Instant};
+use std::{env, fs, hint::black_box, mem::MaybeUninit, time::Instant};
 
 mod answer;
 mod stubs;
@@ -35,7 +35,7 @@ struct PortTick {
 
 #[repr(C)]
 struct PortBox {
-    state: [u64; 106],
+    state: [MaybeUninit<u64>; 106],
     number: u8,
     floats: [f64; 5],
     integers: [i64; 5],

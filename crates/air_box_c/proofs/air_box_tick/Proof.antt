@@ -7,7 +7,7 @@ use contract.Running.{givenOf, tables, tablesOf}
 use denote.Struct.Laws as Struct
 use denote.Triple.Spec.{tripleOf}
 use denote.Triple.Table.{entered, cited}
-use Rattle.lent.specs.Lent.{PlainType, of-struct, of-u8, Five, FiveLaws, Stage, stage-of, StageMeets, ByValue, lent-parts-meets}
+use Rattle.lent.proofs.Lent.{PlainType, of-struct, of-u8, Five, FiveLaws, Stage, stage-of, StageMeets, ByValue, lent-parts-meets}
 use Rattle.air_box.specs.declared.Tick.{Tick}
 use Rattle.air_box.proofs.Tick as Tick·
 use Rattle.air_box.proofs.Tick.Laws as Tick′

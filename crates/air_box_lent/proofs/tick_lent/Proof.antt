@@ -4,7 +4,7 @@ use contract.Running.{givenOf, tables, tablesOf}
 use denote.Struct.Laws as Struct
 use denote.Triple.Spec.{tripleOf}
 use denote.Triple.Table.{entered, cited}
-use Rattle.lent.specs.Lent.{PlainType, of-struct, of-enum, Two, two-of, TwoLaws, two-shape, ByValue, lent-tick-meets}
+use Rattle.lent.proofs.Lent.{PlainType, of-struct, of-enum, Two, two-of, TwoLaws, two-shape, ByValue, lent-tick-meets}
 use Rattle.air_box.specs.AirBox as AirBoxes
 use Rattle.air_box.specs.declared.AirBox.{AirBox}
 use Rattle.air_box.specs.declared.AirBoxStep.{AirBoxStep}
