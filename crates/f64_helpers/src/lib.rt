@@ -1,4 +1,4 @@
-// The f64 functions that the published Rust takes from its standard library, for every f64: NaN, infinities, zeros of either sign, subnormals.
+// The f64 functions that the published Rust takes from its standard library, for every f64: NaN, infinities, zeros of either sign, subnormals. Beside them two that do two of its steps in one (`max_zero`, `floor_as_i64`), the test for a whole number, and the choice between two values.
 ghost use mathlib.Core.Path.{_≡_};
 ghost use lib.Dec.{T};
 ghost use Rattle.f64_helpers.specs.F64.{_<ᶠ_, zero, if_then_else_};
