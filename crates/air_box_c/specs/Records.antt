@@ -11,6 +11,8 @@ use Rattle.cooling_only_controller_timing.specs.declared.TimerState.{TimerState
 use Rattle.cooling_only_controller_conditioning.specs.declared.TimeSuppressionState.{TimeSuppressionState}
 use Rattle.cooling_only_controller_conditioning.specs.declared.LoopPiState.{LoopPiState}
 use Rattle.cooling_only_controller_conditioning.specs.declared.ControlLoopsState.{ControlLoopsState}
+use Rattle.cooling_only_controller_conditioning.specs.declared.SetpointsState.{SetpointsState}
+use Rattle.cooling_only_controller_conditioning.specs.declared.ZoneStatesState.{ZoneStatesState}
 use Rattle.cooling_only_controller_airflow.specs.declared.DamperState.{DamperState}
 use Rattle.cooling_only_controller_airflow.specs.declared.SystemRequestsState.{SystemRequestsState}
 use Rattle.cooling_only_controller_airflow.specs.declared.AlarmsState.{AlarmsState}
@@ -238,13 +240,8 @@ open-controller c = record {
 }
 
 -- the part of the states from the control loops to the damper
-abbrev pub shut-airflow : ControllerState → AirflowC
-shut-airflow s = record {
-  «control_loops» = shut-control-loops (s .«control_loops»);
-  setpoints = s .setpoints;
-  «zone_states» = s .«zone_states»;
-  dampers = shut-damper (s .dampers);
-}
+abbrev pub shut-airflow : ControlLoopsState → SetpointsState → ZoneStatesState → DamperState → AirflowC
+shut-airflow loops setpoints zone-states damper = record { «control_loops» = shut-control-loops loops; setpoints = setpoints; «zone_states» = zone-states; dampers = shut-damper damper }
 
 -- ---- the box and the answer
 
@@ -278,7 +275,7 @@ shut-answer (Refused reason) = record { number = refusal-number reason; output =
 abbrev pub shut-state : ControllerState → LastTickC → AirBoxC
 shut-state s last-part = record {
   «time_suppression» = shut-time-suppression (s .«time_suppression»);
-  airflow = shut-airflow s;
+  airflow = shut-airflow (s .«control_loops») (s .setpoints) (s .«zone_states») (s .dampers);
   «system_requests» = shut-system-requests (s .«system_requests»);
   alarms = shut-alarms (s .alarms);
   last = last-part;

@@ -6,7 +6,7 @@ use Rattle.cooling_only_controller.specs.Controller.{airflow-steps, request-inp
 use Rattle.cooling_only_controller.specs.declared.AirflowSteps.{AirflowSteps}
 use Rattle.air_box.specs.AirBox.{questions}
 use Rattle.air_box.specs.declared.Tick.{Tick}
-use Rattle.air_box_c.specs.Records.{open-time, open-time-suppression, shut-time-suppression, open-control-loops, shut-control-loops, open-damper, shut-damper, open-system-requests, shut-system-requests, open-alarms, shut-alarms, verdict-number}
+use Rattle.air_box_c.specs.Records.{open-time, open-time-suppression, shut-time-suppression, open-control-loops, open-damper, shut-airflow, open-system-requests, shut-system-requests, open-alarms, shut-alarms, verdict-number}
 use Rattle.air_box_c.specs.declared.TimeSuppressionC.{TimeSuppressionC}
 use Rattle.air_box_c.specs.declared.AirflowC.{AirflowC}
 use Rattle.air_box_c.specs.declared.SystemRequestsC.{SystemRequestsC}
@@ -38,7 +38,7 @@ suppression-tick c start =
 abbrev pub airflow-ticked : AfterSuppression → AirflowSteps → AirflowTick
 airflow-ticked suppression steps =
     record {
-      state = record { «control_loops» = shut-control-loops (steps .loops .state); setpoints = steps .setpoints .state; «zone_states» = steps .zone .state; dampers = shut-damper (steps .damper .state) };
+      state = shut-airflow (steps .loops .state) (steps .setpoints .state) (steps .zone .state) (steps .damper .state);
       next = record { suppression = suppression; loops = steps .loops .output; flows = steps .setpoints .output; damper = steps .damper .output };
     }
 

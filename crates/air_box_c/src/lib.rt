@@ -12,6 +12,7 @@ use air_box::Verdict;
 use cdl_recurrences::OptionalTime;
 use cooling_only_controller::AirflowSteps;
 use cooling_only_controller::ControllerOutput;
+use cooling_only_controller::ControllerState;
 use cooling_only_controller_airflow::AlarmsState;
 use cooling_only_controller_airflow::DamperOutput;
 use cooling_only_controller_airflow::DamperState;
@@ -30,7 +31,7 @@ use cooling_only_controller_timing::TimerState;
 use cooling_only_controller_timing::TrueDelayState;
 use cooling_only_controller_timing::UnitDelayState;
 
-// A record for each stage record that holds a time. `open` gives the state that a record stands for, `shut` the record of a state, and `fresh` the record of the fresh state.
+// A record for each stage record that holds a time. `open` gives the state that a record stands for, and `shut` the record of a state.
 
 // `OptionalTime`: whether there is a time, and the time. Where there is none, `time` has no meaning.
 #[repr(C)]
@@ -40,15 +41,6 @@ pub struct OptionalTimeC {
 }
 
 impl OptionalTimeC {
-    fn absent() -> OptionalTimeC
-        ensures { λ r. ⌜ r ≡ Records.shut-time OptionalTime.Absent ⌝ }
-    {
-        OptionalTimeC {
-            present: false,
-            time: 0.0,
-        }
-    }
-
     fn open(self) -> OptionalTime
         ensures { λ r. ⌜ r ≡ Records.open-time self ⌝ }
     {
@@ -85,18 +77,6 @@ pub struct TrueDelayC {
 }
 
 impl TrueDelayC {
-    fn fresh() -> TrueDelayC
-        ensures { λ r. ⌜ r ≡ Records.shut-true-delay Timing.fresh-true-delay ⌝ }
-    {
-        let time = OptionalTimeC::absent();
-        TrueDelayC {
-            previous_time: time,
-            previous_input: false,
-            held: false,
-            timer: 0.0,
-        }
-    }
-
     fn open(self) -> TrueDelayState
         ensures { λ r. ⌜ r ≡ Records.open-true-delay self ⌝ }
     {
@@ -131,16 +111,6 @@ pub struct TimerC {
 }
 
 impl TimerC {
-    fn fresh() -> TimerC
-        ensures { λ r. ⌜ r ≡ Records.shut-timer Timing.fresh-timer ⌝ }
-    {
-        let time = OptionalTimeC::absent();
-        TimerC {
-            entry_time: time,
-            previous_input: false,
-        }
-    }
-
     fn open(self) -> TimerState
         ensures { λ r. ⌜ r ≡ Records.open-timer self ⌝ }
     {
@@ -180,29 +150,6 @@ pub struct TimeSuppressionC {
 }
 
 impl TimeSuppressionC {
-    fn fresh() -> TimeSuppressionC
-        ensures { λ r. ⌜ r ≡ Records.shut-time-suppression Conditioning.fresh-time-suppression ⌝ }
-    {
-        let sampler = SamplerState::fresh();
-        let unit_delay = UnitDelayState::fresh();
-        let delay = TrueDelayC::fresh();
-        let latch = LatchState::fresh();
-        let timer = TimerC::fresh();
-        TimeSuppressionC {
-            setpoint_sampler: sampler,
-            previous_sample: unit_delay,
-            startup_delay: delay,
-            change_detected: false,
-            suppression_latch: latch,
-            passed_latch: latch,
-            timer,
-            previous_active: false,
-            previous_passed: false,
-            captured_setpoint: 0.0,
-            captured_zone: 0.0,
-        }
-    }
-
     fn open(self) -> TimeSuppressionState
         ensures { λ r. ⌜ r ≡ Records.open-time-suppression self ⌝ }
     {
@@ -261,17 +208,6 @@ pub struct LoopPiC {
 }
 
 impl LoopPiC {
-    fn fresh() -> LoopPiC
-        ensures { λ r. ⌜ r ≡ Records.shut-loop-pi Conditioning.fresh-loop-pi ⌝ }
-    {
-        let time = OptionalTimeC::absent();
-        LoopPiC {
-            integrator: 0.0,
-            previous_time: time,
-            previous_trigger: false,
-        }
-    }
-
     fn open(self) -> LoopPiState
         ensures { λ r. ⌜ r ≡ Records.open-loop-pi self ⌝ }
     {
@@ -310,23 +246,6 @@ pub struct ControlLoopsC {
 }
 
 impl ControlLoopsC {
-    fn fresh() -> ControlLoopsC
-        ensures { λ r. ⌜ r ≡ Records.shut-control-loops Conditioning.fresh-control-loops ⌝ }
-    {
-        let pi = LoopPiC::fresh();
-        let delay = TrueDelayC::fresh();
-        ControlLoopsC {
-            cooling_enable: false,
-            heating_enable: false,
-            cooling_pi: pi,
-            heating_pi: pi,
-            cooling_near_zero: false,
-            heating_near_zero: false,
-            cooling_delay: delay,
-            heating_delay: delay,
-        }
-    }
-
     fn open(self) -> ControlLoopsState
         ensures { λ r. ⌜ r ≡ Records.open-control-loops self ⌝ }
     {
@@ -376,18 +295,6 @@ pub struct DamperC {
 }
 
 impl DamperC {
-    fn fresh() -> DamperC
-        ensures { λ r. ⌜ r ≡ Records.shut-damper Airflow.fresh-damper ⌝ }
-    {
-        let time = OptionalTimeC::absent();
-        DamperC {
-            supply_warm: false,
-            integrator: 0.0,
-            previous_time: time,
-            previous_fan: false,
-        }
-    }
-
     fn open(self) -> DamperState
         ensures { λ r. ⌜ r ≡ Records.open-damper self ⌝ }
     {
@@ -434,29 +341,6 @@ pub struct SystemRequestsC {
 }
 
 impl SystemRequestsC {
-    fn fresh() -> SystemRequestsC
-        ensures { λ r. ⌜ r ≡ Records.shut-system-requests Airflow.fresh-system-requests ⌝ }
-    {
-        let delay = TrueDelayC::fresh();
-        let sampler = SamplerState::fresh();
-        SystemRequestsC {
-            hot_three: false,
-            hot_two: false,
-            hot_three_delay: delay,
-            hot_two_delay: delay,
-            cooling_sampler: sampler,
-            setpoint_sampler: sampler,
-            discharge_sampler: sampler,
-            damper_sampler: sampler,
-            cooling_high: false,
-            setpoint_on: false,
-            damper_high: false,
-            damper_delay: delay,
-            starved_half: false,
-            starved_seventy: false,
-        }
-    }
-
     fn open(self) -> SystemRequestsState
         ensures { λ r. ⌜ r ≡ Records.open-system-requests self ⌝ }
     {
@@ -531,25 +415,6 @@ pub struct AlarmsC {
 }
 
 impl AlarmsC {
-    fn fresh() -> AlarmsC
-        ensures { λ r. ⌜ r ≡ Records.shut-alarms Airflow.fresh-alarms ⌝ }
-    {
-        let delay = TrueDelayC::fresh();
-        AlarmsC {
-            fan_armed: delay,
-            setpoint_nonzero: false,
-            setpoint_on: delay,
-            low_half: false,
-            low_seventy: false,
-            low_half_delay: delay,
-            low_seventy_delay: delay,
-            flow_high: false,
-            sensor_delay: delay,
-            damper_closed: false,
-            leak_delay: delay,
-        }
-    }
-
     fn open(self) -> AlarmsState
         ensures { λ r. ⌜ r ≡ Records.open-alarms self ⌝ }
     {
@@ -609,13 +474,16 @@ pub struct AirflowC {
 }
 
 impl AirflowC {
-    fn fresh() -> AirflowC
-        ensures { λ r. ⌜ r ≡ Records.shut-airflow Controller.fresh-controller ⌝ }
+    fn shut(
+        loops: ControlLoopsState,
+        setpoints: SetpointsState,
+        zone_states: ZoneStatesState,
+        damper: DamperState,
+    ) -> AirflowC
+        ensures { λ r. ⌜ r ≡ Records.shut-airflow loops setpoints «zone_states» damper ⌝ }
     {
-        let control_loops = ControlLoopsC::fresh();
-        let setpoints = SetpointsState::fresh();
-        let zone_states = ZoneStatesState::fresh();
-        let dampers = DamperC::fresh();
+        let control_loops = ControlLoopsC::shut(loops);
+        let dampers = DamperC::shut(damper);
         AirflowC {
             control_loops,
             setpoints,
@@ -804,20 +672,12 @@ fn airflow_ticked(suppression: AfterSuppression, steps: AirflowSteps) -> Airflow
     let flows = steps.setpoints;
     let zone = steps.zone;
     let damper = steps.damper;
-    let control_loops = ControlLoopsC::shut(loops.state);
-    let setpoints = flows.state;
-    let zone_states = zone.state;
-    let dampers = DamperC::shut(damper.state);
+    let state = AirflowC::shut(loops.state, flows.state, zone.state, damper.state);
     let loops_output = loops.output;
     let flows_output = flows.output;
     let damper_output = damper.output;
     AirflowTick {
-        state: AirflowC {
-            control_loops,
-            setpoints,
-            zone_states,
-            dampers,
-        },
+        state,
         next: AfterDampers {
             suppression,
             loops: loops_output,
@@ -899,16 +759,17 @@ impl AlarmsC {
     }
 }
 
-// A box that has had no tick. Its answer is the number 0 and zeros. No part goes by `shut`, which has one caller so that it is compiled into the tick.
+// A box that has had no tick. Its answer is the number 0 and zeros.
 #[no_mangle]
 pub extern "C" fn air_box_fresh(quiet: bool) -> AirBoxC
     ensures { λ r. ⌜ Records.Fresh quiet r ⌝ }
 {
-    let time_suppression = TimeSuppressionC::fresh();
-    let airflow = AirflowC::fresh();
-    let system_requests = SystemRequestsC::fresh();
-    let alarms = AlarmsC::fresh();
-    let time = OptionalTimeC::absent();
+    let s = ControllerState::fresh();
+    let time_suppression = TimeSuppressionC::shut(s.time_suppression);
+    let airflow = AirflowC::shut(s.control_loops, s.setpoints, s.zone_states, s.dampers);
+    let system_requests = SystemRequestsC::shut(s.system_requests);
+    let alarms = AlarmsC::shut(s.alarms);
+    let time = OptionalTimeC::shut(OptionalTime::Absent);
     let output = zero_output();
     AirBoxC {
         time_suppression,

@@ -4,7 +4,7 @@ use Rattle.air_box_c.proofs.airflow_ticked.Statement.{statement}
 use Rattle.air_box_c.proofs.airflow_ticked.Tie as tie
 
 returns : tie.Need-returns
-returns c = rw (c .before .before .before .shut2 .ensures, c .before .before .before .before .before .before .shut .ensures)
+returns c = rw (c .before .before .before .shut .ensures)
 
 pub airflow-ticked-spec : {M : Type 1} → statement M
-airflow-ticked-spec = tie.close (tie.spec (λ c κs. search needs) (λ c κs. search needs) returns)
+airflow-ticked-spec = tie.close (tie.spec (λ c κs. search needs) returns)
