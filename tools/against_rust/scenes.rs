@@ -1,6 +1,7 @@
 //! The scenes of which a night is made. Each one brings the box near some of its thresholds.
 
 use crate::Night;
+use crate::dice::Dice;
 use crate::tick::{LAST_SECOND, Tick};
 
 /// An ordinary occupied hour. The temperatures are exact in binary, so that differences are too.
@@ -53,6 +54,13 @@ pub fn play(night: &mut Night) {
     }
 }
 
+/// One tick in four, a flow at or beside an edge of the flow's dead band.
+fn at_the_band(now: &mut Tick, dice: &mut Dice) {
+    if dice.one_in(4) {
+        now.flow = dice.beside_one_of(&[HIGH, HIGH - 0.01, 0.145, 0.3]);
+    }
+}
+
 /// Fan off and flow high, now and then at the edges of the flow's dead band.
 fn sensor(night: &mut Night) {
     night.now.status &= !FAN;
@@ -61,8 +69,8 @@ fn sensor(night: &mut Night) {
     let shaky = night.dice.one_in(2);
     let seconds = night.dice.between(700.0, 1500.0);
     night.run(seconds, |now, dice| {
-        if shaky && dice.one_in(4) {
-            now.flow = dice.beside_one_of(&[HIGH, HIGH - 0.01, 0.145, 0.3]);
+        if shaky {
+            at_the_band(now, dice);
         }
         if shaky && dice.one_in(8) {
             now.mode = dice.pick(&[1, 1, 1, 2]);
@@ -80,8 +88,8 @@ fn leak(night: &mut Night) {
     let shaky = night.dice.one_in(2);
     let seconds = night.dice.between(700.0, 2500.0);
     night.run(seconds, |now, dice| {
-        if shaky && dice.one_in(4) {
-            now.flow = dice.beside_one_of(&[HIGH, HIGH - 0.01, 0.145, 0.3]);
+        if shaky {
+            at_the_band(now, dice);
         }
         if shaky && dice.one_in(8) {
             now.damper = dice.pick(&[1, 1, 0, 2]);

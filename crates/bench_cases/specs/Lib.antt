@@ -1,1 +1,2 @@
 pub mod BenchCases
+pub mod Thresholds
