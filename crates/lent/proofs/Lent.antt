@@ -32,7 +32,7 @@ use types.Part.{whole, sub, look-in, store-in}
 use types.SemTy.{Body}
 use sound.WpLaws.{FmC, fmOf, WpFn-mono}
 use denote.RattleType.{RattleType, owns}
-use denote.Laws.{Is, Tells, Makes, Lawful, Copy, shows}
+use denote.Laws.{Is, Typed, Tells, Makes, Lawful, Copy, shows}
 use denote.Memory.{mem, pointee, partAt}
 use denote.Ref.{RefT, MutRef, ShrRef, ptr-vals, mut-tells, shr-tells, now}
 use denote.Signature.{Signature, plain, mutRefTo, shrRefTo}
@@ -142,6 +142,22 @@ module _ (S N : PlainType) (P : Two S N) where
     pub lawful : {M : Type 1} (𝓤 : URA M) (H : Heap 𝓤) (A : Atoms 𝓤) → Given 𝓤 H A → Lawful 𝓤 H A (rowOf two-shape)
     pub is-first : (x : P .X) (vs : List Val) → Is (rowOf two-shape) x vs → Is (row S) (P .first x) (S .val (P .first x) ∷ [])
     pub is-second : (x : P .X) (vs : List Val) → Is (rowOf two-shape) x vs → Is (row N) (P .second x) (N .val (P .second x) ∷ [])
+
+-- from what the check proves of a declared struct T: `two-laws S N T first second (Struct.tells T L) (λ M 𝓤 H A W. Struct.lawful T L 𝓤 H A W .typed) (Struct.owed T L)`
+module _ (S N : PlainType) (T : Declared) (first : T .D → Data S) (second : T .D → Data N) where
+  abbrev of-two : RattleType
+  of-two = rowOf (two-shape S N (two-of S N T first second))
+
+  abbrev pub two-laws : Tells of-two (Is of-two) (λ x. two-val S N (two-of S N T first second) x ∷ [])
+      → ((M : Type 1) (𝓤 : URA M) (H : Heap 𝓤) (A : Atoms 𝓤) → Given 𝓤 H A → (x : T .D) (vs : List Val) → Is of-two x vs → Typed (of-two .mir) vs)
+      → ((x : T .D) (vs : List Val) → Is of-two x vs → Is (row S) (first x) (S .val (first x) ∷ []) × (Is (row N) (second x) (N .val (second x) ∷ []) × Unit {0}))
+      → TwoLaws S N (two-of S N T first second)
+  two-laws tells typed owed = record {
+    tells = tells;
+    lawful = λ 𝓤 H A W. record { typed = typed _ 𝓤 H A W };
+    is-first = λ x vs is. owed x vs is .0;
+    is-second = λ x vs is. owed x vs is .1 .0;
+  }
 
 lone-is : (v w : Val) → v ∷ [] ≡ w ∷ [] → v ≡ w
 lone-is v w e = cc

@@ -7,7 +7,7 @@ use contract.Running.{givenOf, tables, tablesOf}
 use denote.Struct.Laws as Struct
 use denote.Triple.Spec.{tripleOf}
 use denote.Triple.Table.{entered, cited}
-use Rattle.lent.proofs.Lent.{PlainType, of-struct, of-u8, Five, FiveLaws, Stage, stage-of, StageMeets, ByValue, lent-parts-meets}
+use Rattle.lent.proofs.Lent.{PlainType, of-struct, of-u8, Five, FiveLaws, Stage, stage-of, two-laws, StageMeets, ByValue, lent-parts-meets}
 use Rattle.air_box.specs.declared.Tick.{Tick}
 use Rattle.air_box.proofs.Tick as Tick·
 use Rattle.air_box.proofs.Tick.Laws as Tick′
@@ -146,44 +146,19 @@ box-laws = record {
 -- ---- the functions by value, with what each ensures of its result
 
 abbrev question-stage : Stage last-type tick-type of-u8 start-type
-question-stage = stage-of last-type tick-type of-u8 start-type Questioned·.the-type (λ r. r .number) (λ r. r .next) (record {
-  tells = Struct.tells Questioned·.the-type Questioned′.the-laws;
-  lawful = λ 𝓤 H A W. record { typed = Struct.lawful Questioned·.the-type Questioned′.the-laws 𝓤 H A W .typed };
-  is-first = λ r vs is. Struct.owed Questioned·.the-type Questioned′.the-laws r vs is .0;
-  is-second = λ r vs is. Struct.owed Questioned·.the-type Questioned′.the-laws r vs is .1 .0;
-}) (λ c x r. r ≡ questioned c x) LastTickC·question.name
+question-stage = stage-of last-type tick-type of-u8 start-type Questioned·.the-type (λ r. r .number) (λ r. r .next) (two-laws of-u8 start-type Questioned·.the-type (λ r. r .number) (λ r. r .next) (Struct.tells Questioned·.the-type Questioned′.the-laws) (λ M 𝓤 H A W. Struct.lawful Questioned·.the-type Questioned′.the-laws 𝓤 H A W .typed) (Struct.owed Questioned·.the-type Questioned′.the-laws)) (λ c x r. r ≡ questioned c x) LastTickC·question.name
 
 abbrev suppression-stage : Stage suppression-type start-type suppression-type after-suppression-type
-suppression-stage = stage-of suppression-type start-type suppression-type after-suppression-type SuppressionTick·.the-type (λ r. r .state) (λ r. r .next) (record {
-  tells = Struct.tells SuppressionTick·.the-type SuppressionTick′.the-laws;
-  lawful = λ 𝓤 H A W. record { typed = Struct.lawful SuppressionTick·.the-type SuppressionTick′.the-laws 𝓤 H A W .typed };
-  is-first = λ r vs is. Struct.owed SuppressionTick·.the-type SuppressionTick′.the-laws r vs is .0;
-  is-second = λ r vs is. Struct.owed SuppressionTick·.the-type SuppressionTick′.the-laws r vs is .1 .0;
-}) (λ c x r. r ≡ suppression-tick c x) TimeSuppressionC·tick.name
+suppression-stage = stage-of suppression-type start-type suppression-type after-suppression-type SuppressionTick·.the-type (λ r. r .state) (λ r. r .next) (two-laws suppression-type after-suppression-type SuppressionTick·.the-type (λ r. r .state) (λ r. r .next) (Struct.tells SuppressionTick·.the-type SuppressionTick′.the-laws) (λ M 𝓤 H A W. Struct.lawful SuppressionTick·.the-type SuppressionTick′.the-laws 𝓤 H A W .typed) (Struct.owed SuppressionTick·.the-type SuppressionTick′.the-laws)) (λ c x r. r ≡ suppression-tick c x) TimeSuppressionC·tick.name
 
 abbrev airflow-stage : Stage airflow-type after-suppression-type airflow-type after-dampers-type
-airflow-stage = stage-of airflow-type after-suppression-type airflow-type after-dampers-type AirflowTick·.the-type (λ r. r .state) (λ r. r .next) (record {
-  tells = Struct.tells AirflowTick·.the-type AirflowTick′.the-laws;
-  lawful = λ 𝓤 H A W. record { typed = Struct.lawful AirflowTick·.the-type AirflowTick′.the-laws 𝓤 H A W .typed };
-  is-first = λ r vs is. Struct.owed AirflowTick·.the-type AirflowTick′.the-laws r vs is .0;
-  is-second = λ r vs is. Struct.owed AirflowTick·.the-type AirflowTick′.the-laws r vs is .1 .0;
-}) (λ c x r. r ≡ airflow-tick c x) AirflowC·tick.name
+airflow-stage = stage-of airflow-type after-suppression-type airflow-type after-dampers-type AirflowTick·.the-type (λ r. r .state) (λ r. r .next) (two-laws airflow-type after-dampers-type AirflowTick·.the-type (λ r. r .state) (λ r. r .next) (Struct.tells AirflowTick·.the-type AirflowTick′.the-laws) (λ M 𝓤 H A W. Struct.lawful AirflowTick·.the-type AirflowTick′.the-laws 𝓤 H A W .typed) (Struct.owed AirflowTick·.the-type AirflowTick′.the-laws)) (λ c x r. r ≡ airflow-tick c x) AirflowC·tick.name
 
 abbrev requests-stage : Stage requests-type after-dampers-type requests-type after-requests-type
-requests-stage = stage-of requests-type after-dampers-type requests-type after-requests-type RequestsTick·.the-type (λ r. r .state) (λ r. r .next) (record {
-  tells = Struct.tells RequestsTick·.the-type RequestsTick′.the-laws;
-  lawful = λ 𝓤 H A W. record { typed = Struct.lawful RequestsTick·.the-type RequestsTick′.the-laws 𝓤 H A W .typed };
-  is-first = λ r vs is. Struct.owed RequestsTick·.the-type RequestsTick′.the-laws r vs is .0;
-  is-second = λ r vs is. Struct.owed RequestsTick·.the-type RequestsTick′.the-laws r vs is .1 .0;
-}) (λ c x r. r ≡ requests-tick c x) SystemRequestsC·tick.name
+requests-stage = stage-of requests-type after-dampers-type requests-type after-requests-type RequestsTick·.the-type (λ r. r .state) (λ r. r .next) (two-laws requests-type after-requests-type RequestsTick·.the-type (λ r. r .state) (λ r. r .next) (Struct.tells RequestsTick·.the-type RequestsTick′.the-laws) (λ M 𝓤 H A W. Struct.lawful RequestsTick·.the-type RequestsTick′.the-laws 𝓤 H A W .typed) (Struct.owed RequestsTick·.the-type RequestsTick′.the-laws)) (λ c x r. r ≡ requests-tick c x) SystemRequestsC·tick.name
 
 abbrev alarms-stage : Stage alarms-type after-requests-type alarms-type after-alarms-type
-alarms-stage = stage-of alarms-type after-requests-type alarms-type after-alarms-type AlarmsTick·.the-type (λ r. r .state) (λ r. r .next) (record {
-  tells = Struct.tells AlarmsTick·.the-type AlarmsTick′.the-laws;
-  lawful = λ 𝓤 H A W. record { typed = Struct.lawful AlarmsTick·.the-type AlarmsTick′.the-laws 𝓤 H A W .typed };
-  is-first = λ r vs is. Struct.owed AlarmsTick·.the-type AlarmsTick′.the-laws r vs is .0;
-  is-second = λ r vs is. Struct.owed AlarmsTick·.the-type AlarmsTick′.the-laws r vs is .1 .0;
-}) (λ c x r. r ≡ alarms-tick c x) AlarmsC·tick.name
+alarms-stage = stage-of alarms-type after-requests-type alarms-type after-alarms-type AlarmsTick·.the-type (λ r. r .state) (λ r. r .next) (two-laws alarms-type after-alarms-type AlarmsTick·.the-type (λ r. r .state) (λ r. r .next) (Struct.tells AlarmsTick·.the-type AlarmsTick′.the-laws) (λ M 𝓤 H A W. Struct.lawful AlarmsTick·.the-type AlarmsTick′.the-laws 𝓤 H A W .typed) (Struct.owed AlarmsTick·.the-type AlarmsTick′.the-laws)) (λ c x r. r ≡ alarms-tick c x) AlarmsC·tick.name
 
 abbrev Taken : LastTickC → AfterAlarms → LastTickC → Type 0
 Taken c x r = r ≡ last-accepted c x

@@ -4,7 +4,7 @@ use contract.Running.{givenOf, tables, tablesOf}
 use denote.Struct.Laws as Struct
 use denote.Triple.Spec.{tripleOf}
 use denote.Triple.Table.{entered, cited}
-use Rattle.lent.proofs.Lent.{PlainType, of-struct, of-enum, Two, two-of, TwoLaws, two-shape, ByValue, lent-tick-meets}
+use Rattle.lent.proofs.Lent.{PlainType, of-struct, of-enum, Two, two-of, two-laws, TwoLaws, two-shape, ByValue, lent-tick-meets}
 use Rattle.air_box.specs.AirBox as AirBoxes
 use Rattle.air_box.specs.declared.AirBox.{AirBox}
 use Rattle.air_box.specs.declared.AirBoxStep.{AirBoxStep}
@@ -40,12 +40,9 @@ abbrev step : Two box answered
 step = two-of box answered O.the-type (λ r. r .state) (λ r. r .answer)
 
 step-laws : TwoLaws box answered step
-step-laws = record {
-  tells = Struct.tells O.the-type O′.the-laws;
-  lawful = λ 𝓤 H A W. record { typed = Struct.lawful O.the-type O′.the-laws 𝓤 H A W .typed };
-  is-first = λ r vs is. Struct.owed O.the-type O′.the-laws r vs is .0;
-  is-second = λ r vs is. Struct.owed O.the-type O′.the-laws r vs is .1 .0;
-}
+step-laws =
+    two-laws box answered O.the-type (λ r. r .state) (λ r. r .answer) (Struct.tells O.the-type O′.the-laws) (λ M 𝓤 H A W. Struct.lawful O.the-type O′.the-laws 𝓤 H A W .typed)
+    (Struct.owed O.the-type O′.the-laws)
 
 -- what `tick` ensures of its result, and `tick_lent` of the box at exit and of its answer
 abbrev Out : AirBox → Tick → AirBoxStep → Type 0
