@@ -34,7 +34,7 @@ static void print_time(double t) {
 
 int main(void) {
     AirBox box = air_box_fresh(false);
-    const AirBoxOutput *o = &box.last.answer.output;
+    AirBoxOutput o = {0};
     AirBoxTick tick;
     TickLine line;
     int shown = -1;
@@ -43,12 +43,12 @@ int main(void) {
             puts("--:--:--      this line is no tick");
             continue;
         }
-        air_box_tick(&box, &tick);
-        if (box.last.answer.number != AIR_BOX_ACCEPTED) {
-            printf("--:--:--  refused %d: %s\n", box.last.answer.number, reason(box.last.answer.number));
+        uint8_t number = air_box_tick(&box, &tick, &o);
+        if (number != AIR_BOX_ACCEPTED) {
+            printf("--:--:--  refused %d: %s\n", number, reason(number));
             continue;
         }
-        int code = air_box_desk_code(o->low_airflow_alarm, o->airflow_sensor_alarm, o->leaking_damper_alarm);
+        int code = air_box_desk_code(o.low_airflow_alarm, o.airflow_sensor_alarm, o.leaking_damper_alarm);
         if (code == shown) continue;
         shown = code;
         print_time(tick.t);

@@ -16,11 +16,13 @@ static void print_output(const AirBoxOutput *o) {
 int main(void) {
     AirBox box = air_box_fresh(false);
     AirBoxTick tick;
+    AirBoxOutput output = {0};
     TickLine line;
+    uint8_t number = AIR_BOX_ACCEPTED;
     while ((line = next_tick(&box, &tick)) != END_OF_INPUT) {
-        if (line == A_TICK) air_box_tick(&box, &tick);
+        if (line == A_TICK) number = air_box_tick(&box, &tick, &output);
         if (line == MALFORMED) puts("malformed");
-        else if (box.last.answer.number != AIR_BOX_ACCEPTED) printf("refused %d\n", box.last.answer.number);
-        else print_output(&box.last.answer.output);
+        else if (number != AIR_BOX_ACCEPTED) printf("refused %d\n", number);
+        else print_output(&output);
     }
 }

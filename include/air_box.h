@@ -1,7 +1,7 @@
 /* The air box for C and C++. Link with libair_box_c.a, which `rt staticlib air_box_c` writes to target/staticlib.
    Every struct lies as the Rattle record of the same fields; the assertions below hold the sizes and offsets to it.
    A pointer must point to a whole record of its type. Bytes that are no box or no tick, such as a flag
-   that is neither 0 nor 1, and a tick that lies inside the box are the caller's fault. */
+   that is neither 0 nor 1, and a tick, a box and an output of which two lie over each other are the caller's fault. */
 #ifndef AIR_BOX_H
 #define AIR_BOX_H
 
@@ -16,7 +16,7 @@ extern "C" {
 #define AIR_BOX_ASSERT(fact) _Static_assert(fact, #fact)
 #endif
 
-/* The number of an answer: the question that got the first "no", or accepted. */
+/* What a tick returns: the number of the question that got the first "no", or accepted. */
 #define AIR_BOX_ACCEPTED 0
 #define AIR_BOX_NOT_WHOLE_SECONDS 1
 #define AIR_BOX_TIME_OUT_OF_RANGE 2
@@ -266,24 +266,13 @@ AIR_BOX_ASSERT(offsetof(AirBoxOutput, low_airflow_alarm) == 56);
 AIR_BOX_ASSERT(offsetof(AirBoxOutput, airflow_sensor_alarm) == 64);
 AIR_BOX_ASSERT(offsetof(AirBoxOutput, leaking_damper_alarm) == 72);
 
-/* A tick's answer: AIR_BOX_ACCEPTED and the ten outputs, or the number of the refusal and zeros. */
-typedef struct AirBoxAnswer {
-    uint8_t number;
-    AirBoxOutput output;
-} AirBoxAnswer;
-AIR_BOX_ASSERT(sizeof(AirBoxAnswer) == 88);
-AIR_BOX_ASSERT(offsetof(AirBoxAnswer, output) == 8);
-
-/* The time of the last accepted tick, the start choice, and the answer of the last tick.
-   Before the first tick the number is 0 and the outputs are zeros, which answer no tick. */
+/* The time of the last accepted tick, and the start choice. */
 typedef struct AirBoxLast {
     AirBoxOptionalTime time;
     bool quiet;
-    AirBoxAnswer answer;
 } AirBoxLast;
-AIR_BOX_ASSERT(sizeof(AirBoxLast) == 112);
+AIR_BOX_ASSERT(sizeof(AirBoxLast) == 24);
 AIR_BOX_ASSERT(offsetof(AirBoxLast, quiet) == 16);
-AIR_BOX_ASSERT(offsetof(AirBoxLast, answer) == 24);
 
 /* A box. The stages stand in the order in which a tick goes through them. */
 typedef struct AirBox {
@@ -293,7 +282,7 @@ typedef struct AirBox {
     AirBoxAlarms alarms;
     AirBoxLast last;
 } AirBox;
-AIR_BOX_ASSERT(sizeof(AirBox) == 936);
+AIR_BOX_ASSERT(sizeof(AirBox) == 848);
 AIR_BOX_ASSERT(offsetof(AirBox, airflow) == 160);
 AIR_BOX_ASSERT(offsetof(AirBox, system_requests) == 352);
 AIR_BOX_ASSERT(offsetof(AirBox, alarms) == 600);
@@ -341,12 +330,12 @@ AIR_BOX_ASSERT(sizeof(AirBoxTick) == 112);
 AIR_BOX_ASSERT(offsetof(AirBoxTick, input) == 8);
 
 /* A box that has had no tick. Where `quiet` is true, the true delays of requests and alarms wait also on the first tick.
-   The record stands for the fresh box of that start, and its answer is the number 0 and zeros. */
+   The record stands for the fresh box of that start. */
 AirBox air_box_fresh(bool quiet);
 
-/* One tick of the box at `box`: the record then stands for the next box, and `box->last.answer` is the tick's answer.
-   A refused tick leaves the box as it was; a tick may carry any numbers, NaN and infinities among them, and none stops the box. */
-void air_box_tick(AirBox *box, const AirBoxTick *tick);
+/* One tick of the box at `box`. An accepted tick returns AIR_BOX_ACCEPTED; the record then stands for the next box, and `output` holds the ten outputs.
+   A refused tick returns its number and writes neither the box nor the output. A tick may carry any numbers, NaN and infinities among them, and none stops the box. */
+uint8_t air_box_tick(AirBox *box, const AirBoxTick *tick, AirBoxOutput *output);
 
 /* The desk code of the three alarms of an answer's output, by the first rule that fits.
    It is 12, 13, 23 or 34, and 0 where no rule fits. */

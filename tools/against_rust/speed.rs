@@ -36,14 +36,17 @@ struct PortTick {
 #[repr(C)]
 struct PortBox {
     state: [MaybeUninit<u64>; 106],
-    number: u8,
+}
+
+#[repr(C)]
+struct PortOutput {
     floats: [f64; 5],
     integers: [i64; 5],
 }
 
 unsafe extern "C" {
     fn air_box_fresh(quiet: bool) -> PortBox;
-    fn air_box_tick(record: *mut PortBox, tick: *const PortTick);
+    fn air_box_tick(record: *mut PortBox, tick: *const PortTick, output: *mut PortOutput) -> u8;
 }
 
 fn port_tick(tick: &Tick) -> PortTick {
@@ -102,12 +105,13 @@ fn digest(sum: u64, floats: &[f64; 5], integers: &[i64; 5]) -> u64 {
 fn run_port(ticks: &[Accepted]) -> u64 {
     let mut sum = 0;
     let mut record = unsafe { air_box_fresh(false) };
+    let mut output = PortOutput { floats: [0.0; 5], integers: [0; 5] };
     for tick in ticks {
         if tick.rust.start != 0 {
             record = unsafe { air_box_fresh(tick.rust.start == 2) };
         }
-        unsafe { air_box_tick(&mut record, &tick.port) };
-        sum = digest(sum, &record.floats, &record.integers);
+        unsafe { air_box_tick(&mut record, &tick.port, &mut output) };
+        sum = digest(sum, &output.floats, &output.integers);
     }
     sum
 }

@@ -2,57 +2,88 @@
 use mathlib.Core.Path.{_≡_, refl}
 use mathlib.Core.Bool.{Bool, true, false, not}
 use lib.Dec.{T, eqb}
+use Prim.Native.Nat.{ℕ}
 use Rattle.cooling_only_controller.specs.Controller.{controller-output}
-use Rattle.air_box.specs.AirBox.{tick, questions, decided, accepted-tick, delay-on-init}
+use Rattle.air_box.specs.AirBox.{tick, questions, decided, accepted-tick, refusal-number, delay-on-init}
+use Rattle.cooling_only_controller.specs.declared.ControllerOutput.{ControllerOutput}
 use Rattle.air_box.specs.declared.Tick.{Tick}
+use Rattle.air_box.specs.declared.Answer.the-variants.{Accepted}
 use Rattle.air_box.specs.declared.Verdict.{Verdict}
 use Rattle.air_box.specs.declared.Verdict.the-variants.{Accept, Refuse}
+use Rattle.air_box.specs.declared.Refusal.{Refusal}
 use Rattle.air_box.specs.declared.Refusal.the-variants.{NotWholeSeconds, TimeOutOfRange, BeforeLast, TooLongAfterLast, TemperatureOutOfRange, Co2OutOfRange, AirflowOutOfRange}
-use Rattle.air_box_c.specs.Records.{open-time, open-box, shut-box, start-of, verdict-number, refused, Ticked}
-use Rattle.air_box_c.specs.Stages.{questioned, suppression-tick, airflow-tick, requests-tick, alarms-tick, last-accepted}
+use Rattle.air_box_c.specs.Records.{open-time, open-box, shut-box, start-of, verdict-number, Ticked, ByNumber, NumberDecides}
+use Rattle.air_box_c.specs.Stages.{questioned, suppression-tick, airflow-tick, requests-tick, alarms-tick, last-tick}
 use Rattle.air_box_c.specs.declared.AirBoxC.{AirBoxC}
 use Rattle.air_box_c.proofs.OpenShut.{open-shut}
 
--- the record after the stages of an accepted tick
+-- the record after the stages of an accepted tick, and the output
 abbrev pub stored : AirBoxC → Tick → AirBoxC
 stored c k =
     let suppression = suppression-tick (c .«time_suppression») (questioned (c .last) k .next) in
     let air-tick = airflow-tick (c .airflow) (suppression .next) in
     let request-tick = requests-tick (c .«system_requests») (air-tick .next) in
     let alarm-tick = alarms-tick (c .alarms) (request-tick .next) in
-    record { «time_suppression» = suppression .state; airflow = air-tick .state; «system_requests» = request-tick .state; alarms = alarm-tick .state; last = last-accepted (c .last) (alarm-tick .next) }
+    record { «time_suppression» = suppression .state; airflow = air-tick .state; «system_requests» = request-tick .state; alarms = alarm-tick .state; last = last-tick (c .last) (alarm-tick .next) .state }
+
+abbrev pub told : AirBoxC → Tick → ControllerOutput
+told c k =
+    let suppression = suppression-tick (c .«time_suppression») (questioned (c .last) k .next) in
+    let air-tick = airflow-tick (c .airflow) (suppression .next) in
+    let request-tick = requests-tick (c .«system_requests») (air-tick .next) in
+    let alarm-tick = alarms-tick (c .alarms) (request-tick .next) in
+    last-tick (c .last) (alarm-tick .next) .output
 
 quiet-back : (q : Bool) → delay-on-init (start-of q) ≡ q
 quiet-back true = refl
 quiet-back false = refl
 
-stored-is : (c : AirBoxC) (k : Tick) → stored c k ≡ shut-box (accepted-tick (open-box c) k)
+stored-is : (c : AirBoxC) (k : Tick) → stored c k ≡ shut-box (accepted-tick (open-box c) k .state)
 unfolding shut-box open-box accepted-tick controller-output
 stored-is c k = rw quiet-back
+
+told-is : (c : AirBoxC) (k : Tick) → accepted-tick (open-box c) k .answer ≡ Accepted (told c k)
+unfolding open-box accepted-tick controller-output
+told-is c k = rw quiet-back
 
 -- the two outcomes, by the verdict v
 ticks : (c : AirBoxC) (k : Tick) (v : Verdict) → questions (open-time (c .last .time)) k ≡ v → tick (open-box c) k ≡ decided v (open-box c) k
 unfolding tick open-box
 ticks c k v e = rw e
 
-accepted-by : (c : AirBoxC) (k : Tick) (v : Verdict) → questions (open-time (c .last .time)) k ≡ v → T (eqb (verdict-number v) 0) → Ticked c k (shut-box (accepted-tick (open-box c) k))
-unfolding shut-box
-accepted-by c k Accept e none = record { next-box = rw (ticks c k Accept e, open-shut); next-answer = rw (ticks c k Accept e); every-field = rw e }
-accepted-by c k (Refuse NotWholeSeconds) e none = absurd none
-accepted-by c k (Refuse TimeOutOfRange) e none = absurd none
-accepted-by c k (Refuse BeforeLast) e none = absurd none
-accepted-by c k (Refuse TooLongAfterLast) e none = absurd none
-accepted-by c k (Refuse TemperatureOutOfRange) e none = absurd none
-accepted-by c k (Refuse Co2OutOfRange) e none = absurd none
-accepted-by c k (Refuse AirflowOutOfRange) e none = absurd none
+not-zero : (r : Refusal) → T (eqb (refusal-number r) 0) → ⊥
+not-zero NotWholeSeconds z = z
+not-zero TimeOutOfRange z = z
+not-zero BeforeLast z = z
+not-zero TooLongAfterLast z = z
+not-zero TemperatureOutOfRange z = z
+not-zero Co2OutOfRange z = z
+not-zero AirflowOutOfRange z = z
 
-refused-by : (c : AirBoxC) (k : Tick) (v : Verdict) → questions (open-time (c .last .time)) k ≡ v → T (not (eqb (verdict-number v) 0)) → Ticked c k (refused c (verdict-number v))
-unfolding open-box
-refused-by c k Accept e some = absurd some
-refused-by c k (Refuse reason) e some = record { next-box = rw (ticks c k (Refuse reason) e); next-answer = rw (ticks c k (Refuse reason) e); every-field = rw e }
+accepted-by : (c : AirBoxC) (k : Tick) (w : ControllerOutput) (v : Verdict) → questions (open-time (c .last .time)) k ≡ v → T (eqb (verdict-number v) 0) → Ticked c k w (shut-box (accepted-tick (open-box c) k .state)) (told c k) (verdict-number v)
+accepted-by c k w Accept e none = record { next-box = rw (ticks c k Accept e, open-shut); next-output = rw (ticks c k Accept e, told-is c k); number-told = rw (ticks c k Accept e, told-is c k); every-field = rw e }
+accepted-by c k w (Refuse reason) e none = absurd (not-zero reason none)
 
-pub tick-stored : (c : AirBoxC) (k : Tick) → T (eqb (questioned (c .last) k .number) 0) → Ticked c k (stored c k)
-tick-stored c k none = rw (stored-is c k) (accepted-by c k (questions (open-time (c .last .time)) k) refl none)
+refused-by : (c : AirBoxC) (k : Tick) (w : ControllerOutput) (v : Verdict) → questions (open-time (c .last .time)) k ≡ v → T (not (eqb (verdict-number v) 0)) → Ticked c k w c w (verdict-number v)
+refused-by c k w Accept e some = absurd some
+refused-by c k w (Refuse reason) e some = record { next-box = rw (ticks c k (Refuse reason) e); next-output = rw (ticks c k (Refuse reason) e); number-told = rw (ticks c k (Refuse reason) e); every-field = rw e }
 
-pub tick-refused : (c : AirBoxC) (k : Tick) → T (not (eqb (questioned (c .last) k .number) 0)) → Ticked c k (refused c (questioned (c .last) k .number))
-tick-refused c k some = refused-by c k (questions (open-time (c .last .time)) k) refl some
+pub tick-stored : (c : AirBoxC) (k : Tick) (w : ControllerOutput) → T (eqb (questioned (c .last) k .number) 0) → Ticked c k w (stored c k) (told c k) (questioned (c .last) k .number)
+tick-stored c k w none = rw (stored-is c k) (accepted-by c k w (questions (open-time (c .last .time)) k) refl none)
+
+pub tick-refused : (c : AirBoxC) (k : Tick) (w : ControllerOutput) → T (not (eqb (questioned (c .last) k .number) 0)) → Ticked c k w c w (questioned (c .last) k .number)
+tick-refused c k w some = refused-by c k w (questions (open-time (c .last .time)) k) refl some
+
+-- what the returned number says
+by-number : (c : AirBoxC) (k : Tick) (w : ControllerOutput) (c′ : AirBoxC) (w′ : ControllerOutput) (n : ℕ) (v : Verdict) → questions (open-time (c .last .time)) k ≡ v → Ticked c k w c′ w′ n → ByNumber c k w c′ w′ n
+by-number c k w c′ w′ n Accept e d = record {
+  kept = λ some. absurd (rw (d .number-told, ticks c k Accept e, told-is c k) at some);
+  accepted = λ none. rw (d .next-output, ticks c k Accept e, told-is c k);
+}
+by-number c k w c′ w′ n (Refuse reason) e d = record {
+  kept = λ some. (rw (d .every-field, e), rw (d .next-output, ticks c k (Refuse reason) e));
+  accepted = λ none. absurd (not-zero reason (rw (d .number-told, ticks c k (Refuse reason) e) at none));
+}
+
+pub number-decides : NumberDecides
+number-decides c k w c′ w′ n d = by-number c k w c′ w′ n (questions (open-time (c .last .time)) k) refl d

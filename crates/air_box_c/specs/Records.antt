@@ -1,7 +1,8 @@
 -- The records of the C interface: what box each stands for (`open`), and the record of a box (`shut`). An absent time is the flag false; the number beside it then has no meaning, and `shut` writes 0 there.
 use Prim.Native.Nat.{ℕ}
 use mathlib.Core.Path.{_≡_}
-use mathlib.Core.Bool.{Bool, true, false}
+use mathlib.Core.Bool.{Bool, true, false, not}
+use lib.Dec.{T, eqb}
 use lib.IntN.{pos}
 use Rattle.f64_helpers.specs.F64.{zero, if_then_else_}
 use Rattle.cdl_recurrences.specs.declared.OptionalTime.{OptionalTime}
@@ -24,7 +25,6 @@ use Rattle.air_box.specs.declared.Tick.{Tick}
 use Rattle.air_box.specs.declared.Start.{Start}
 use Rattle.air_box.specs.declared.Start.the-variants.{Plain, Quiet}
 use Rattle.air_box.specs.declared.AirBox.{AirBox}
-use Rattle.air_box.specs.declared.AirBoxStep.{AirBoxStep}
 use Rattle.air_box.specs.declared.Answer.{Answer}
 use Rattle.air_box.specs.declared.Answer.the-variants.{Accepted, Refused}
 use Rattle.air_box.specs.declared.Verdict.{Verdict}
@@ -39,7 +39,6 @@ use Rattle.air_box_c.specs.declared.DamperC.{DamperC}
 use Rattle.air_box_c.specs.declared.SystemRequestsC.{SystemRequestsC}
 use Rattle.air_box_c.specs.declared.AlarmsC.{AlarmsC}
 use Rattle.air_box_c.specs.declared.AirflowC.{AirflowC}
-use Rattle.air_box_c.specs.declared.AnswerC.{AnswerC}
 use Rattle.air_box_c.specs.declared.LastTickC.{LastTickC}
 use Rattle.air_box_c.specs.declared.AirBoxC.{AirBoxC}
 
@@ -252,24 +251,15 @@ start-of false = Plain
 unfoldable pub open-box : AirBoxC → AirBox
 open-box c = record { state = open-controller c; «last_time» = open-time (c .last .time); start = start-of (c .last .quiet) }
 
-abbrev pub zero-output : ControllerOutput
-zero-output = record {
-  «airflow_setpoint» = zero;
-  «damper_command» = zero;
-  «adjusted_population_flow» = zero;
-  «adjusted_area_flow» = zero;
-  «minimum_outdoor_airflow» = zero;
-  «zone_temperature_reset_request» = pos 0;
-  «zone_pressure_reset_request» = pos 0;
-  «low_airflow_alarm» = pos 0;
-  «airflow_sensor_alarm» = pos 0;
-  «leaking_damper_alarm» = pos 0;
-}
+-- what a tick returns: document 01's number, and 0 for an accepted tick
+abbrev pub answer-number : Answer → ℕ
+answer-number (Accepted output) = 0
+answer-number (Refused reason) = refusal-number reason
 
--- the number is document 01's, and 0 for an accepted tick; a refused tick has zeros for outputs
-abbrev pub shut-answer : Answer → AnswerC
-shut-answer (Accepted output) = record { number = 0; output = output }
-shut-answer (Refused reason) = record { number = refusal-number reason; output = zero-output }
+-- the output record after a tick: the tick's outputs, or what it was
+abbrev pub answer-output : Answer → ControllerOutput → ControllerOutput
+answer-output (Accepted output) before = output
+answer-output (Refused reason) before = before
 
 -- the record of a state, with what stands beside it
 abbrev pub shut-state : ControllerState → LastTickC → AirBoxC
@@ -281,47 +271,43 @@ shut-state s last-part = record {
   last = last-part;
 }
 
-unfoldable pub shut-box : AirBoxStep → AirBoxC
-shut-box s = shut-state (s .state .state) (record { time = shut-time (s .state .«last_time»); quiet = delay-on-init (s .state .start); answer = shut-answer (s .answer) })
+unfoldable pub shut-box : AirBox → AirBoxC
+shut-box s = shut-state (s .state) (record { time = shut-time (s .«last_time»); quiet = delay-on-init (s .start) })
 
 -- what the questions decide, as a number
 abbrev pub verdict-number : Verdict → ℕ
 verdict-number Accept = 0
 verdict-number (Refuse reason) = refusal-number reason
 
--- the record after a refused tick: the box as it was, and the number
-abbrev pub last-refused : LastTickC → ℕ → LastTickC
-last-refused c number = record { time = c .time; quiet = c .quiet; answer = record { number = number; output = zero-output } }
-
-abbrev pub refused : AirBoxC → ℕ → AirBoxC
-refused c number = record {
-  «time_suppression» = c .«time_suppression»;
-  airflow = c .airflow;
-  «system_requests» = c .«system_requests»;
-  alarms = c .alarms;
-  last = last-refused (c .last) number;
-}
-
--- the record after a tick, by what the questions decide: that of the next box, or the old one, every field, with the number
+-- the record after a tick, by what the questions decide: that of the next box, or the old one
 abbrev pub decided-record : Verdict → AirBoxC → Tick → AirBoxC
-decided-record Accept c k = shut-box (accepted-tick (open-box c) k)
-decided-record (Refuse reason) c k = refused c (refusal-number reason)
+decided-record Accept c k = shut-box (accepted-tick (open-box c) k .state)
+decided-record (Refuse reason) c k = c
 
 -- the record of a box that has had no tick
 abbrev pub fresh-record : Bool → AirBoxC
-fresh-record quiet = shut-state fresh-controller (record { time = shut-time Absent; quiet = quiet; answer = record { number = 0; output = zero-output } })
+fresh-record quiet = shut-state fresh-controller (record { time = shut-time Absent; quiet = quiet })
 
 -- ---- what is promised
 
 -- the record of a box stands for that box
 abbrev pub OpenShut : Type 0
-OpenShut = (s : AirBoxStep) → open-box (shut-box s) ≡ s .state
+OpenShut = (s : AirBox) → open-box (shut-box s) ≡ s
 
--- the record `after` stands for the box that the tick gives from the box of `before`, and holds the tick's answer; every field of it is settled, a NaN as being one
-pub record Ticked (before : AirBoxC) (k : Tick) (after : AirBoxC) : Type 0 where
+-- the record `after` stands for the box that the tick gives from the box of `before`; the number and the output after it are those of its answer. A refused tick leaves both records as they were, and an accepted one settles every field, a NaN as being one
+pub record Ticked (before : AirBoxC) (k : Tick) (shown : ControllerOutput) (after : AirBoxC) (output : ControllerOutput) (number : ℕ) : Type 0 where
   pub next-box : open-box after ≡ tick (open-box before) k .state
-  pub next-answer : after .last .answer ≡ shut-answer (tick (open-box before) k .answer)
+  pub next-output : output ≡ answer-output (tick (open-box before) k .answer) shown
+  pub number-told : number ≡ answer-number (tick (open-box before) k .answer)
   pub every-field : after ≡ decided-record (questions (open-time (before .last .time)) k) before k
+
+-- by the returned number alone: where it is not 0 both records are as they were, and where it is 0 the tick is accepted with that output
+pub record ByNumber (before : AirBoxC) (k : Tick) (shown : ControllerOutput) (after : AirBoxC) (output : ControllerOutput) (number : ℕ) : Type 0 where
+  pub kept : T (not (eqb number 0)) → (after ≡ before) × (output ≡ shown)
+  pub accepted : T (eqb number 0) → tick (open-box before) k .answer ≡ Accepted output
+
+abbrev pub NumberDecides : Type 0
+NumberDecides = (before : AirBoxC) (k : Tick) (shown : ControllerOutput) (after : AirBoxC) (output : ControllerOutput) (number : ℕ) → Ticked before k shown after output number → ByNumber before k shown after output number
 
 -- the record r stands for a box that has had no tick; every field of it is settled
 pub record Fresh (quiet : Bool) (r : AirBoxC) : Type 0 where

@@ -22,6 +22,7 @@ use Rattle.air_box_c.specs.declared.AfterRequests.{AfterRequests}
 use Rattle.air_box_c.specs.declared.RequestsTick.{RequestsTick}
 use Rattle.air_box_c.specs.declared.AfterAlarms.{AfterAlarms}
 use Rattle.air_box_c.specs.declared.AlarmsTick.{AlarmsTick}
+use Rattle.air_box_c.specs.declared.LastTick.{LastTick}
 
 -- the questions
 abbrev pub questioned : LastTickC → Tick → Questioned
@@ -63,6 +64,6 @@ alarms-tick c after =
     let step = alarms (open-alarms c) (start .tick .t) (alarm-input (start .tick .input) (airflow .damper)) (start .quiet) in
     record { state = shut-alarms (step .state); next = record { t = start .tick .t; output = outputs (airflow .damper) (airflow .flows) (after .requests) (step .output) } }
 
--- the time and the answer of an accepted tick
-abbrev pub last-accepted : LastTickC → AfterAlarms → LastTickC
-last-accepted c done = record { time = record { present = true; time = done .t }; quiet = c .quiet; answer = record { number = 0; output = done .output } }
+-- the time of an accepted tick, and its outputs
+abbrev pub last-tick : LastTickC → AfterAlarms → LastTick
+last-tick c done = record { state = record { time = record { present = true; time = done .t }; quiet = c .quiet }; output = done .output }

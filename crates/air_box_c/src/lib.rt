@@ -1,4 +1,4 @@
-// The C interface: the box and its last answer as one record of numbers and flags, the conversions to the box and back, and the exported functions.
+// The C interface: the box as one record of numbers and flags, the conversions to the box and back, and the exported functions.
 ghost use mathlib.Core.Path.{_≡_};
 ghost use Rattle.air_box.specs.AirBox as AirBoxes;
 ghost use Rattle.air_box_c.specs.Records as Records;
@@ -493,39 +493,14 @@ impl AirflowC {
     }
 }
 
-// `Answer`: the number of the refusal, 0 where the tick was accepted, and the ten outputs, zeros where it was refused.
-#[repr(C)]
-pub struct AnswerC {
-    pub number: u8,
-    pub output: ControllerOutput,
-}
-
-fn zero_output() -> ControllerOutput
-    ensures { λ r. ⌜ r ≡ Records.zero-output ⌝ }
-{
-    ControllerOutput {
-        airflow_setpoint: 0.0,
-        damper_command: 0.0,
-        adjusted_population_flow: 0.0,
-        adjusted_area_flow: 0.0,
-        minimum_outdoor_airflow: 0.0,
-        zone_temperature_reset_request: 0,
-        zone_pressure_reset_request: 0,
-        low_airflow_alarm: 0,
-        airflow_sensor_alarm: 0,
-        leaking_damper_alarm: 0,
-    }
-}
-
-// Beside the state: the time of the last accepted tick, the start choice, and the answer of the last tick.
+// Beside the state: the time of the last accepted tick, and the start choice.
 #[repr(C)]
 pub struct LastTickC {
     pub time: OptionalTimeC,
     pub quiet: bool,
-    pub answer: AnswerC,
 }
 
-// `AirBox`, with the answer of its last tick. The stages stand in the order in which a tick goes through them.
+// `AirBox`. The stages stand in the order in which a tick goes through them.
 #[repr(C)]
 pub struct AirBoxC {
     pub time_suppression: TimeSuppressionC,
@@ -535,7 +510,7 @@ pub struct AirBoxC {
     pub last: LastTickC,
 }
 
-// A tick is run part by part, in place: the questions are asked of `last`, then each part is read, run and stored before the next, and `last` is stored at the end. The record copied out and in as a whole costs more. What a stage knows of those before it is handed on.
+// A tick is run part by part, in place: the questions are asked of `last`, then each part is read, run and stored before the next, `last` at the end with the output. The record copied out and in as a whole costs more. What a stage knows of those before it is handed on.
 
 // The number of the first question that gets a "no", 0 where none does, and what the stages begin with.
 struct Questioned {
@@ -564,31 +539,26 @@ impl LastTickC {
         }
     }
 
-    fn accepted(self, done: AfterAlarms) -> LastTickC
-        ensures { λ r. ⌜ r ≡ Stages.last-accepted self done ⌝ }
+    fn tick(self, done: AfterAlarms) -> LastTick
+        ensures { λ r. ⌜ r ≡ Stages.last-tick self done ⌝ }
     {
         let output = done.output;
-        LastTickC {
-            time: OptionalTimeC {
-                present: true,
-                time: done.t,
+        LastTick {
+            state: LastTickC {
+                time: OptionalTimeC {
+                    present: true,
+                    time: done.t,
+                },
+                quiet: self.quiet,
             },
-            quiet: self.quiet,
-            answer: AnswerC { number: 0, output },
+            output,
         }
     }
+}
 
-    fn refused(self, number: u8) -> LastTickC
-        ensures { λ r. ⌜ r ≡ Records.last-refused self number ⌝ }
-    {
-        let time = self.time;
-        let output = zero_output();
-        LastTickC {
-            time,
-            quiet: self.quiet,
-            answer: AnswerC { number, output },
-        }
-    }
+struct LastTick {
+    state: LastTickC,
+    output: ControllerOutput,
 }
 
 fn verdict_number(verdict: Verdict) -> u8
@@ -759,7 +729,7 @@ impl AlarmsC {
     }
 }
 
-// A box that has had no tick. Its answer is the number 0 and zeros.
+// A box that has had no tick.
 #[no_mangle]
 pub extern "C" fn air_box_fresh(quiet: bool) -> AirBoxC
     ensures { λ r. ⌜ Records.Fresh quiet r ⌝ }
@@ -770,24 +740,19 @@ pub extern "C" fn air_box_fresh(quiet: bool) -> AirBoxC
     let system_requests = SystemRequestsC::shut(s.system_requests);
     let alarms = AlarmsC::shut(s.alarms);
     let time = OptionalTimeC::shut(OptionalTime::Absent);
-    let output = zero_output();
     AirBoxC {
         time_suppression,
         airflow,
         system_requests,
         alarms,
-        last: LastTickC {
-            time,
-            quiet,
-            answer: AnswerC { number: 0, output },
-        },
+        last: LastTickC { time, quiet },
     }
 }
 
-// One tick of the box at b. A refused tick leaves the box as it was, and its answer says why.
+// One tick of the box at b: 0, the next box and its outputs; or the number of the refusal, with box and output as they were.
 #[no_mangle]
-pub extern "C" fn air_box_tick(b: &mut AirBoxC, tick: &Tick)
-    ensures { λ _. ⌜ Records.Ticked (now (b .entry)) (now (tick .entry)) (now (b .exit)) ⌝ }
+pub extern "C" fn air_box_tick(b: &mut AirBoxC, tick: &Tick, output: &mut ControllerOutput) -> u8
+    ensures { λ r. ⌜ Records.Ticked (now (b .entry)) (now (tick .entry)) (now (output .entry)) (now (b .exit)) (now (output .exit)) r ⌝ }
 {
     let questioned = b.last.question(*tick);
     if questioned.number == 0 {
@@ -799,10 +764,11 @@ pub extern "C" fn air_box_tick(b: &mut AirBoxC, tick: &Tick)
         b.system_requests = requests.state;
         let alarms = b.alarms.tick(requests.next);
         b.alarms = alarms.state;
-        b.last = b.last.accepted(alarms.next);
-    } else {
-        b.last = b.last.refused(questioned.number);
+        let last = b.last.tick(alarms.next);
+        b.last = last.state;
+        *output = last.output;
     }
+    questioned.number
 }
 
 // One number from the three alarms.

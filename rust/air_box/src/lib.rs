@@ -60,26 +60,16 @@ pub enum Refusal {
     AirflowOutOfRange = 7,
 }
 
+/// The record that stands for a box, which only the archive reads and whose padding may be unwritten.
 #[repr(C)]
 #[derive(Clone, Copy)]
-struct Answer {
-    number: u8,
-    output: Output,
-}
+struct Record([MaybeUninit<u64>; 106]);
 
-/// The record that stands for a box: its state, which only the archive reads and whose padding may be unwritten, and the answer of its last tick.
-#[repr(C)]
-#[derive(Clone, Copy)]
-struct Record {
-    state: [MaybeUninit<u64>; 106],
-    answer: Answer,
-}
-
-const _: () = assert!(size_of::<Record>() == 936 && size_of::<Tick>() == 112 && size_of::<Answer>() == 88);
+const _: () = assert!(size_of::<Record>() == 848 && size_of::<Tick>() == 112 && size_of::<Output>() == 80);
 
 extern "C" {
     fn air_box_fresh(quiet: bool) -> Record;
-    fn air_box_tick(record: *mut Record, tick: *const Tick);
+    fn air_box_tick(record: *mut Record, tick: *const Tick, output: *mut Output) -> u8;
     fn air_box_desk_code(low_airflow: i64, airflow_sensor: i64, leaking_damper: i64) -> u8;
 }
 
@@ -100,10 +90,11 @@ impl AirBox {
 
     /// One tick: the ten outputs, or the refusal, which leaves the box as it was.
     pub fn tick(&mut self, tick: &Tick) -> Result<Output, Refusal> {
-        // Both records are whole, and the box was made by the archive.
-        unsafe { air_box_tick(&mut self.0, tick) };
-        match self.0.answer.number {
-            0 => Ok(self.0.answer.output),
+        let mut output = MaybeUninit::zeroed();
+        // The records are whole and apart, and the box was made by the archive. Zeros are an output.
+        let number = unsafe { air_box_tick(&mut self.0, tick, output.as_mut_ptr()) };
+        match number {
+            0 => Ok(unsafe { output.assume_init() }),
             1 => Err(Refusal::NotWholeSeconds),
             2 => Err(Refusal::TimeOutOfRange),
             3 => Err(Refusal::BeforeLast),

@@ -9,13 +9,13 @@ use Rattle.air_box_c.proofs.air_box_fresh.Tie as tie
 
 returns : tie.Need-returns
 unfolding open-box open-time
-returns c = let quiet = c .before .before .before .before .before .before .before .args .quiet in record {
-  box = rw (c .before .shut5 .ensures, c .before .before .shut4 .ensures, c .before .before .before .shut3 .ensures, c .before .before .before .before .shut2 .ensures, c .before .before .before .before .before .shut .ensures, c .before .before .before .before .before .before .fresh .ensures)
+returns c = let quiet = c .before .before .before .before .before .before .args .quiet in record {
+  box = rw (c .shut5 .ensures, c .before .shut4 .ensures, c .before .before .shut3 .ensures, c .before .before .before .shut2 .ensures, c .before .before .before .before .shut .ensures, c .before .before .before .before .before .fresh .ensures)
       (λ i. record { state = open-shut-controller fresh-controller (fresh-record quiet .last) i; «last_time» = Absent; start = start-of quiet });
-  every-field = rw (c .zero-output .ensures, c .before .shut5 .ensures, c .before .before .shut4 .ensures, c .before .before .before .shut3 .ensures, c .before .before .before .before .shut2 .ensures, c .before .before .before .before .before .shut .ensures, c .before .before .before .before .before .before .fresh .ensures);
+  every-field = rw (c .shut5 .ensures, c .before .shut4 .ensures, c .before .before .shut3 .ensures, c .before .before .before .shut2 .ensures, c .before .before .before .before .shut .ensures, c .before .before .before .before .before .fresh .ensures);
 }
 
 pub air-box-fresh-spec : {M : Type 1} → statement M
 air-box-fresh-spec =
     tie.close (tie.spec (λ c κs. search needs) (λ c κs. search needs) (λ c κs. search needs)
-    (λ c κs. search needs) (λ c κs. search needs) (λ c κs. search needs) (λ c κs. search needs) returns)
+    (λ c κs. search needs) (λ c κs. search needs) (λ c κs. search needs) returns)

@@ -1,18 +1,20 @@
--- `air_box_c::air_box_tick` meets its contract, by the law of `lent` for a record whose parts are run in their places. Assumes nothing.
+-- `air_box_c::air_box_tick` meets its contract, by the law of `lent` for a record whose parts are run in their places, with an output behind a second reference. Assumes nothing.
 use mathlib.Core.Path.{_≡_}
-use Prim.Native.Nat.{ℕ}
 use mathlib.Core.Bool.{not}
 use lib.Dec.{T, eqb}
 use contract.Running.{givenOf, tables, tablesOf}
 use denote.Struct.Laws as Struct
 use denote.Triple.Spec.{tripleOf}
 use denote.Triple.Table.{entered, cited}
-use Rattle.lent.proofs.Lent.{PlainType, of-struct, of-u8, Five, FiveLaws, Stage, stage-of, two-laws, StageMeets, ByValue, lent-parts-meets}
+use Rattle.lent.proofs.Lent.{PlainType, of-struct, of-u8, Five, FiveLaws, Stage, stage-of, two-laws, StageMeets, lent-out-meets}
 use Rattle.air_box.specs.declared.Tick.{Tick}
 use Rattle.air_box.proofs.Tick as Tick·
 use Rattle.air_box.proofs.Tick.Laws as Tick′
-use Rattle.air_box_c.specs.Records.{last-refused, Ticked}
-use Rattle.air_box_c.specs.Stages.{questioned, suppression-tick, airflow-tick, requests-tick, alarms-tick, last-accepted}
+use Rattle.cooling_only_controller.specs.declared.ControllerOutput.{ControllerOutput}
+use Rattle.cooling_only_controller.proofs.ControllerOutput as ControllerOutput·
+use Rattle.cooling_only_controller.proofs.ControllerOutput.Laws as ControllerOutput′
+use Rattle.air_box_c.specs.Records.{Ticked}
+use Rattle.air_box_c.specs.Stages.{questioned, suppression-tick, airflow-tick, requests-tick, alarms-tick, last-tick}
 use Rattle.air_box_c.specs.declared.AirBoxC.{AirBoxC}
 use Rattle.air_box_c.specs.declared.TimeSuppressionC.{TimeSuppressionC}
 use Rattle.air_box_c.specs.declared.AirflowC.{AirflowC}
@@ -29,6 +31,7 @@ use Rattle.air_box_c.specs.declared.SuppressionTick.{SuppressionTick}
 use Rattle.air_box_c.specs.declared.AirflowTick.{AirflowTick}
 use Rattle.air_box_c.specs.declared.RequestsTick.{RequestsTick}
 use Rattle.air_box_c.specs.declared.AlarmsTick.{AlarmsTick}
+use Rattle.air_box_c.specs.declared.LastTick.{LastTick}
 use Rattle.air_box_c.proofs.ByParts.{tick-stored, tick-refused}
 use Rattle.air_box_c.proofs.AirBoxC as AirBoxC·
 use Rattle.air_box_c.proofs.AirBoxC.Laws as AirBoxC′
@@ -62,6 +65,8 @@ use Rattle.air_box_c.proofs.RequestsTick as RequestsTick·
 use Rattle.air_box_c.proofs.RequestsTick.Laws as RequestsTick′
 use Rattle.air_box_c.proofs.AlarmsTick as AlarmsTick·
 use Rattle.air_box_c.proofs.AlarmsTick.Laws as AlarmsTick′
+use Rattle.air_box_c.proofs.LastTick as LastTick·
+use Rattle.air_box_c.proofs.LastTick.Laws as LastTick′
 use Rattle.air_box_c.proofs.LastTickC.question.Symbol as LastTickC·question
 use Rattle.air_box_c.proofs.LastTickC.question.Met as LastTickC·question·met
 use Rattle.air_box_c.proofs.TimeSuppressionC.tick.Symbol as TimeSuppressionC·tick
@@ -72,10 +77,8 @@ use Rattle.air_box_c.proofs.SystemRequestsC.tick.Symbol as SystemReques
 use Rattle.air_box_c.proofs.SystemRequestsC.tick.Met as SystemRequestsC·tick·met
 use Rattle.air_box_c.proofs.AlarmsC.tick.Symbol as AlarmsC·tick
 use Rattle.air_box_c.proofs.AlarmsC.tick.Met as AlarmsC·tick·met
-use Rattle.air_box_c.proofs.LastTickC.accepted.Symbol as LastTickC·accepted
-use Rattle.air_box_c.proofs.LastTickC.accepted.Met as LastTickC·accepted·met
-use Rattle.air_box_c.proofs.LastTickC.refused.Symbol as LastTickC·refused
-use Rattle.air_box_c.proofs.LastTickC.refused.Met as LastTickC·refused·met
+use Rattle.air_box_c.proofs.LastTickC.tick.Symbol as LastTickC·tick
+use Rattle.air_box_c.proofs.LastTickC.tick.Met as LastTickC·tick·met
 use Rattle.air_box_c.proofs.air_box_tick.Key.{name as #f}
 use Rattle.air_box_c.proofs.air_box_tick as f
 use Rattle.air_box_c.proofs.air_box_tick.Statement as stated
@@ -84,6 +87,9 @@ use Rattle.air_box_c.proofs.air_box_tick.Code as code
 -- ---- the parts, and what is handed from one to the next
 abbrev tick-type : PlainType
 tick-type = of-struct Tick·.the-type Tick′.the-laws Tick′.the-plain Tick′.the-copy
+
+abbrev output-type : PlainType
+output-type = of-struct ControllerOutput·.the-type ControllerOutput′.the-laws ControllerOutput′.the-plain ControllerOutput′.the-copy
 
 abbrev suppression-type : PlainType
 suppression-type = of-struct TimeSuppressionC·.the-type TimeSuppressionC′.the-laws TimeSuppressionC′.the-plain TimeSuppressionC′.the-copy
@@ -160,33 +166,28 @@ requests-stage = stage-of requests-type after-dampers-type requests-type after-r
 abbrev alarms-stage : Stage alarms-type after-requests-type alarms-type after-alarms-type
 alarms-stage = stage-of alarms-type after-requests-type alarms-type after-alarms-type AlarmsTick·.the-type (λ r. r .state) (λ r. r .next) (two-laws alarms-type after-alarms-type AlarmsTick·.the-type (λ r. r .state) (λ r. r .next) (Struct.tells AlarmsTick·.the-type AlarmsTick′.the-laws) (λ M 𝓤 H A W. Struct.lawful AlarmsTick·.the-type AlarmsTick′.the-laws 𝓤 H A W .typed) (Struct.owed AlarmsTick·.the-type AlarmsTick′.the-laws)) (λ c x r. r ≡ alarms-tick c x) AlarmsC·tick.name
 
-abbrev Taken : LastTickC → AfterAlarms → LastTickC → Type 0
-Taken c x r = r ≡ last-accepted c x
+abbrev last-stage : Stage last-type after-alarms-type last-type output-type
+last-stage = stage-of last-type after-alarms-type last-type output-type LastTick·.the-type (λ r. r .state) (λ r. r .output) (two-laws last-type output-type LastTick·.the-type (λ r. r .state) (λ r. r .output) (Struct.tells LastTick·.the-type LastTick′.the-laws) (λ M 𝓤 H A W. Struct.lawful LastTick·.the-type LastTick′.the-laws 𝓤 H A W .typed) (Struct.owed LastTick·.the-type LastTick′.the-laws)) (λ c x r. r ≡ last-tick c x) LastTickC·tick.name
 
-abbrev Left : LastTickC → ℕ → LastTickC → Type 0
-Left c n r = r ≡ last-refused c n
-
-law-taken : (c : AirBoxC) (k : Tick) (a : Questioned) (r₀ : SuppressionTick) (r₁ : AirflowTick) (r₂ : RequestsTick) (r₃ : AlarmsTick) (e : LastTickC)
+law-taken : (c : AirBoxC) (k : Tick) (w : ControllerOutput) (a : Questioned) (r₀ : SuppressionTick) (r₁ : AirflowTick) (r₂ : RequestsTick) (r₃ : AlarmsTick) (r₄ : LastTick)
     → a ≡ questioned (c .last) k → T (eqb (a .number) 0) → r₀ ≡ suppression-tick (c .«time_suppression») (a .next) → r₁ ≡ airflow-tick (c .airflow) (r₀ .next) → r₂ ≡ requests-tick (c .«system_requests») (r₁ .next)
-    → r₃ ≡ alarms-tick (c .alarms) (r₂ .next) → e ≡ last-accepted (c .last) (r₃ .next)
-    → Ticked c k (record { «time_suppression» = r₀ .state; airflow = r₁ .state; «system_requests» = r₂ .state; alarms = r₃ .state; last = e })
-law-taken c k a r₀ r₁ r₂ r₃ e is none e₀ e₁ e₂ e₃ e₄ = rw (e₄, e₃, e₂, e₁, e₀, is) (tick-stored c k (rw is at none))
+    → r₃ ≡ alarms-tick (c .alarms) (r₂ .next) → r₄ ≡ last-tick (c .last) (r₃ .next)
+    → Ticked c k w (record { «time_suppression» = r₀ .state; airflow = r₁ .state; «system_requests» = r₂ .state; alarms = r₃ .state; last = r₄ .state }) (r₄ .output) (a .number)
+law-taken c k w a r₀ r₁ r₂ r₃ r₄ is none e₀ e₁ e₂ e₃ e₄ = rw (e₄, e₃, e₂, e₁, e₀, is) (tick-stored c k w (rw is at none))
 
-law-left : (c : AirBoxC) (k : Tick) (a : Questioned) (e : LastTickC) → a ≡ questioned (c .last) k → T (not (eqb (a .number) 0)) → e ≡ last-refused (c .last) (a .number)
-    → Ticked c k (record { «time_suppression» = c .«time_suppression»; airflow = c .airflow; «system_requests» = c .«system_requests»; alarms = c .alarms; last = e })
-law-left c k a e is some e₄ = rw (e₄, is) (tick-refused c k (rw is at some))
+law-left : (c : AirBoxC) (k : Tick) (w : ControllerOutput) (a : Questioned) → a ≡ questioned (c .last) k → T (not (eqb (a .number) 0)) → Ticked c k w c w (a .number)
+law-left c k w a is some = rw is (tick-refused c k w (rw is at some))
 
 pub air-box-tick-spec : {M : Type 1} → stated.statement M
 unfolding code.routine tablesOf
 air-box-tick-spec 𝓤 H 𝓜 𝓖 𝓡 =
     entered 𝓤 H (tripleOf 𝓤 H (𝓖 .A) f.signature (f.spec 𝓤 H (𝓖 .A) (𝓜 .mem) (𝓡 .run)))
     (tables 𝓤 H 𝓜 𝓡 code.env .C) (tables 𝓤 H 𝓜 𝓡 code.env .Λ) #f code.function (code.unfolded 𝓤 H 𝓜 𝓡)
-    (lent-parts-meets suppression-type airflow-type requests-type alarms-type last-type tick-type start-type after-suppression-type after-dampers-type after-requests-type after-alarms-type box box-laws
-    question-stage suppression-stage airflow-stage requests-stage alarms-stage Taken Left LastTickC·accepted.name LastTickC·refused.name Ticked law-taken law-left 𝓤 H (𝓖 .A) (givenOf 𝓤 H 𝓜 𝓖) (tablesOf 𝓤 H 𝓜 (tables 𝓤 H 𝓜 𝓡 code.env))
+    (lent-out-meets suppression-type airflow-type requests-type alarms-type last-type tick-type output-type start-type after-suppression-type after-dampers-type after-requests-type after-alarms-type box box-laws
+    question-stage suppression-stage airflow-stage requests-stage alarms-stage last-stage Ticked law-taken law-left 𝓤 H (𝓖 .A) (givenOf 𝓤 H 𝓜 𝓖) (tablesOf 𝓤 H 𝓜 (tables 𝓤 H 𝓜 𝓡 code.env))
     (cited 𝓤 H (StageMeets last-type tick-type of-u8 start-type question-stage 𝓤 H (𝓖 .A)) 𝓜 𝓡 code.env LastTickC·question.name LastTickC·question.routine code.calls-air-box-c·LastTickC·question (LastTickC·question·met.met 𝓤 H 𝓜 𝓖 𝓡))
     (cited 𝓤 H (StageMeets suppression-type start-type suppression-type after-suppression-type suppression-stage 𝓤 H (𝓖 .A)) 𝓜 𝓡 code.env TimeSuppressionC·tick.name TimeSuppressionC·tick.routine code.calls-air-box-c·TimeSuppressionC·tick (TimeSuppressionC·tick·met.met 𝓤 H 𝓜 𝓖 𝓡))
     (cited 𝓤 H (StageMeets airflow-type after-suppression-type airflow-type after-dampers-type airflow-stage 𝓤 H (𝓖 .A)) 𝓜 𝓡 code.env AirflowC·tick.name AirflowC·tick.routine code.calls-air-box-c·AirflowC·tick (AirflowC·tick·met.met 𝓤 H 𝓜 𝓖 𝓡))
     (cited 𝓤 H (StageMeets requests-type after-dampers-type requests-type after-requests-type requests-stage 𝓤 H (𝓖 .A)) 𝓜 𝓡 code.env SystemRequestsC·tick.name SystemRequestsC·tick.routine code.calls-air-box-c·SystemRequestsC·tick (SystemRequestsC·tick·met.met 𝓤 H 𝓜 𝓖 𝓡))
     (cited 𝓤 H (StageMeets alarms-type after-requests-type alarms-type after-alarms-type alarms-stage 𝓤 H (𝓖 .A)) 𝓜 𝓡 code.env AlarmsC·tick.name AlarmsC·tick.routine code.calls-air-box-c·AlarmsC·tick (AlarmsC·tick·met.met 𝓤 H 𝓜 𝓖 𝓡))
-    (cited 𝓤 H (ByValue (last-type .shape) (after-alarms-type .shape) (last-type .shape) Taken 𝓤 H (𝓖 .A)) 𝓜 𝓡 code.env LastTickC·accepted.name LastTickC·accepted.routine code.calls-air-box-c·LastTickC·accepted (LastTickC·accepted·met.met 𝓤 H 𝓜 𝓖 𝓡))
-    (cited 𝓤 H (ByValue (last-type .shape) (of-u8 .shape) (last-type .shape) Left 𝓤 H (𝓖 .A)) 𝓜 𝓡 code.env LastTickC·refused.name LastTickC·refused.routine code.calls-air-box-c·LastTickC·refused (LastTickC·refused·met.met 𝓤 H 𝓜 𝓖 𝓡)))
+    (cited 𝓤 H (StageMeets last-type after-alarms-type last-type output-type last-stage 𝓤 H (𝓖 .A)) 𝓜 𝓡 code.env LastTickC·tick.name LastTickC·tick.routine code.calls-air-box-c·LastTickC·tick (LastTickC·tick·met.met 𝓤 H 𝓜 𝓖 𝓡)))
