@@ -2,7 +2,6 @@
 use mathlib.Core.Path.{_≡_, refl}
 use mathlib.Core.Bool.{Bool, true, false, not}
 use lib.Dec.{T, eqb}
-use Prim.Native.Nat.{ℕ}
 use Rattle.cooling_only_controller.specs.Controller.{controller-output}
 use Rattle.air_box.specs.AirBox.{tick, questions, decided, accepted-tick, refusal-number, delay-on-init}
 use Rattle.cooling_only_controller.specs.declared.ControllerOutput.{ControllerOutput}
@@ -12,27 +11,35 @@ use Rattle.air_box.specs.declared.Verdict.{Verdict}
 use Rattle.air_box.specs.declared.Verdict.the-variants.{Accept, Refuse}
 use Rattle.air_box.specs.declared.Refusal.{Refusal}
 use Rattle.air_box.specs.declared.Refusal.the-variants.{NotWholeSeconds, TimeOutOfRange, BeforeLast, TooLongAfterLast, TemperatureOutOfRange, Co2OutOfRange, AirflowOutOfRange}
-use Rattle.air_box_c.specs.Records.{open-time, open-box, shut-box, start-of, verdict-number, Ticked, ByNumber, NumberDecides}
+use Rattle.air_box_c.specs.Records.{open-time, open-box, shut-box, start-of, verdict-number, Ticked}
 use Rattle.air_box_c.specs.Stages.{questioned, suppression-tick, airflow-tick, requests-tick, alarms-tick, last-tick}
 use Rattle.air_box_c.specs.declared.AirBoxC.{AirBoxC}
+use Rattle.air_box_c.specs.declared.SuppressionTick.{SuppressionTick}
+use Rattle.air_box_c.specs.declared.AirflowTick.{AirflowTick}
+use Rattle.air_box_c.specs.declared.RequestsTick.{RequestsTick}
+use Rattle.air_box_c.specs.declared.AlarmsTick.{AlarmsTick}
+use Rattle.air_box_c.specs.declared.LastTick.{LastTick}
 use Rattle.air_box_c.proofs.OpenShut.{open-shut}
 
--- the record after the stages of an accepted tick, and the output
-abbrev pub stored : AirBoxC → Tick → AirBoxC
-stored c k =
-    let suppression = suppression-tick (c .«time_suppression») (questioned (c .last) k .next) in
-    let air-tick = airflow-tick (c .airflow) (suppression .next) in
-    let request-tick = requests-tick (c .«system_requests») (air-tick .next) in
-    let alarm-tick = alarms-tick (c .alarms) (request-tick .next) in
-    record { «time_suppression» = suppression .state; airflow = air-tick .state; «system_requests» = request-tick .state; alarms = alarm-tick .state; last = last-tick (c .last) (alarm-tick .next) .state }
+-- the stages of an accepted tick
+abbrev suppressed : AirBoxC → Tick → SuppressionTick
+suppressed c k = suppression-tick (c .«time_suppression») (questioned (c .last) k .next)
 
-abbrev pub told : AirBoxC → Tick → ControllerOutput
-told c k =
-    let suppression = suppression-tick (c .«time_suppression») (questioned (c .last) k .next) in
-    let air-tick = airflow-tick (c .airflow) (suppression .next) in
-    let request-tick = requests-tick (c .«system_requests») (air-tick .next) in
-    let alarm-tick = alarms-tick (c .alarms) (request-tick .next) in
-    last-tick (c .last) (alarm-tick .next) .output
+abbrev aired : AirBoxC → Tick → AirflowTick
+aired c k = airflow-tick (c .airflow) (suppressed c k .next)
+
+abbrev requested : AirBoxC → Tick → RequestsTick
+requested c k = requests-tick (c .«system_requests») (aired c k .next)
+
+abbrev alarmed : AirBoxC → Tick → AlarmsTick
+alarmed c k = alarms-tick (c .alarms) (requested c k .next)
+
+abbrev lasted : AirBoxC → Tick → LastTick
+lasted c k = last-tick (c .last) (alarmed c k .next)
+
+-- the record after them
+abbrev stored : AirBoxC → Tick → AirBoxC
+stored c k = record { «time_suppression» = suppressed c k .state; airflow = aired c k .state; «system_requests» = requested c k .state; alarms = alarmed c k .state; last = lasted c k .state }
 
 quiet-back : (q : Bool) → delay-on-init (start-of q) ≡ q
 quiet-back true = refl
@@ -42,16 +49,16 @@ stored-is : (c : AirBoxC) (k : Tick) → stored c k ≡ shut-box (accepted-tick 
 unfolding shut-box open-box accepted-tick controller-output
 stored-is c k = rw quiet-back
 
-told-is : (c : AirBoxC) (k : Tick) → accepted-tick (open-box c) k .answer ≡ Accepted (told c k)
+pub told-is : (c : AirBoxC) (k : Tick) → accepted-tick (open-box c) k .answer ≡ Accepted (lasted c k .output)
 unfolding open-box accepted-tick controller-output
 told-is c k = rw quiet-back
 
 -- the two outcomes, by the verdict v
-ticks : (c : AirBoxC) (k : Tick) (v : Verdict) → questions (open-time (c .last .time)) k ≡ v → tick (open-box c) k ≡ decided v (open-box c) k
+pub ticks : (c : AirBoxC) (k : Tick) (v : Verdict) → questions (open-time (c .last .time)) k ≡ v → tick (open-box c) k ≡ decided v (open-box c) k
 unfolding tick open-box
 ticks c k v e = rw e
 
-not-zero : (r : Refusal) → T (eqb (refusal-number r) 0) → ⊥
+pub not-zero : (r : Refusal) → T (eqb (refusal-number r) 0) → ⊥
 not-zero NotWholeSeconds z = z
 not-zero TimeOutOfRange z = z
 not-zero BeforeLast z = z
@@ -60,7 +67,7 @@ not-zero TemperatureOutOfRange z = z
 not-zero Co2OutOfRange z = z
 not-zero AirflowOutOfRange z = z
 
-accepted-by : (c : AirBoxC) (k : Tick) (w : ControllerOutput) (v : Verdict) → questions (open-time (c .last .time)) k ≡ v → T (eqb (verdict-number v) 0) → Ticked c k w (shut-box (accepted-tick (open-box c) k .state)) (told c k) (verdict-number v)
+accepted-by : (c : AirBoxC) (k : Tick) (w : ControllerOutput) (v : Verdict) → questions (open-time (c .last .time)) k ≡ v → T (eqb (verdict-number v) 0) → Ticked c k w (shut-box (accepted-tick (open-box c) k .state)) (lasted c k .output) (verdict-number v)
 accepted-by c k w Accept e none = record { next-box = rw (ticks c k Accept e, open-shut); next-output = rw (ticks c k Accept e, told-is c k); number-told = rw (ticks c k Accept e, told-is c k); every-field = rw e }
 accepted-by c k w (Refuse reason) e none = absurd (not-zero reason none)
 
@@ -68,22 +75,8 @@ refused-by : (c : AirBoxC) (k : Tick) (w : ControllerOutput) (v : Verdict) → q
 refused-by c k w Accept e some = absurd some
 refused-by c k w (Refuse reason) e some = record { next-box = rw (ticks c k (Refuse reason) e); next-output = rw (ticks c k (Refuse reason) e); number-told = rw (ticks c k (Refuse reason) e); every-field = rw e }
 
-pub tick-stored : (c : AirBoxC) (k : Tick) (w : ControllerOutput) → T (eqb (questioned (c .last) k .number) 0) → Ticked c k w (stored c k) (told c k) (questioned (c .last) k .number)
+pub tick-stored : (c : AirBoxC) (k : Tick) (w : ControllerOutput) → T (eqb (questioned (c .last) k .number) 0) → Ticked c k w (stored c k) (lasted c k .output) (questioned (c .last) k .number)
 tick-stored c k w none = rw (stored-is c k) (accepted-by c k w (questions (open-time (c .last .time)) k) refl none)
 
 pub tick-refused : (c : AirBoxC) (k : Tick) (w : ControllerOutput) → T (not (eqb (questioned (c .last) k .number) 0)) → Ticked c k w c w (questioned (c .last) k .number)
 tick-refused c k w some = refused-by c k w (questions (open-time (c .last .time)) k) refl some
-
--- what the returned number says
-by-number : (c : AirBoxC) (k : Tick) (w : ControllerOutput) (c′ : AirBoxC) (w′ : ControllerOutput) (n : ℕ) (v : Verdict) → questions (open-time (c .last .time)) k ≡ v → Ticked c k w c′ w′ n → ByNumber c k w c′ w′ n
-by-number c k w c′ w′ n Accept e d = record {
-  kept = λ some. absurd (rw (d .number-told, ticks c k Accept e, told-is c k) at some);
-  accepted = λ none. rw (d .next-output, ticks c k Accept e, told-is c k);
-}
-by-number c k w c′ w′ n (Refuse reason) e d = record {
-  kept = λ some. (rw (d .every-field, e), rw (d .next-output, ticks c k (Refuse reason) e));
-  accepted = λ none. absurd (not-zero reason (rw (d .number-told, ticks c k (Refuse reason) e) at none));
-}
-
-pub number-decides : NumberDecides
-number-decides c k w c′ w′ n d = by-number c k w c′ w′ n (questions (open-time (c .last .time)) k) refl d

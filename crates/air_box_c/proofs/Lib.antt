@@ -1,2 +1,3 @@
 pub mod OpenShut
 pub mod ByParts
+pub mod DemandInC

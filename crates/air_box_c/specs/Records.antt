@@ -1,9 +1,7 @@
 -- The records of the C interface: what box each stands for (`open`), and the record of a box (`shut`). An absent time is the flag false; the number beside it then has no meaning, and `shut` writes 0 there.
 use Prim.Native.Nat.{ℕ}
 use mathlib.Core.Path.{_≡_}
-use mathlib.Core.Bool.{Bool, true, false, not}
-use lib.Dec.{T, eqb}
-use lib.IntN.{pos}
+use mathlib.Core.Bool.{Bool, true, false}
 use Rattle.f64_helpers.specs.F64.{zero, if_then_else_}
 use Rattle.cdl_recurrences.specs.declared.OptionalTime.{OptionalTime}
 use Rattle.cdl_recurrences.specs.declared.OptionalTime.the-variants.{Absent, At}
@@ -300,14 +298,6 @@ pub record Ticked (before : AirBoxC) (k : Tick) (shown : ControllerOutput) (afte
   pub next-output : output ≡ answer-output (tick (open-box before) k .answer) shown
   pub number-told : number ≡ answer-number (tick (open-box before) k .answer)
   pub every-field : after ≡ decided-record (questions (open-time (before .last .time)) k) before k
-
--- by the returned number alone: where it is not 0 both records are as they were, and where it is 0 the tick is accepted with that output
-pub record ByNumber (before : AirBoxC) (k : Tick) (shown : ControllerOutput) (after : AirBoxC) (output : ControllerOutput) (number : ℕ) : Type 0 where
-  pub kept : T (not (eqb number 0)) → (after ≡ before) × (output ≡ shown)
-  pub accepted : T (eqb number 0) → tick (open-box before) k .answer ≡ Accepted output
-
-abbrev pub NumberDecides : Type 0
-NumberDecides = (before : AirBoxC) (k : Tick) (shown : ControllerOutput) (after : AirBoxC) (output : ControllerOutput) (number : ℕ) → Ticked before k shown after output number → ByNumber before k shown after output number
 
 -- the record r stands for a box that has had no tick; every field of it is settled
 pub record Fresh (quiet : Bool) (r : AirBoxC) : Type 0 where

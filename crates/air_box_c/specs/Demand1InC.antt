@@ -1,0 +1,28 @@
+-- Demand 1 as a C caller meets it: what the number that `air_box_tick` returns says of the tick and of both records, for every box record, every tick and every output record.
+-- That the call ends and does nothing undefined is what the check of `air_box_tick` shows: its contract has no `requires`, and says that it leaves the records as `Ticked` has them.
+use Prim.Native.Nat.{ℕ}
+use mathlib.Core.Path.{_≡_}
+use mathlib.Core.Bool.{not}
+use lib.Dec.{T, eqb}
+use Rattle.cooling_only_controller.specs.declared.ControllerOutput.{ControllerOutput}
+use Rattle.air_box.specs.AirBox.{tick, refusal-number}
+use Rattle.air_box.specs.Demand1.{yes, FirstNo}
+use Rattle.air_box.specs.declared.Tick.{Tick}
+use Rattle.air_box.specs.declared.Answer.the-variants.{Accepted}
+use Rattle.air_box.specs.declared.Refusal.{Refusal}
+use Rattle.air_box_c.specs.Records.{open-time, open-box, Ticked}
+use Rattle.air_box_c.specs.declared.AirBoxC.{AirBoxC}
+
+-- the box record and the output record before the tick k, both after it, and the returned number
+pub record ByNumber (before : AirBoxC) (shown : ControllerOutput) (k : Tick) (after : AirBoxC) (output : ControllerOutput) (number : ℕ) : Type 0 where
+  -- it is the number of the question that gets the first "no"
+  pub first-no : (reason : Refusal) → FirstNo reason (open-time (before .last .time)) k → number ≡ refusal-number reason
+  -- it is 0 where none gets a "no"
+  pub no-no : ((reason : Refusal) → T (yes reason (open-time (before .last .time)) k)) → number ≡ 0
+  -- where it is not 0, both records are as they were
+  pub refused-writes-nothing : T (not (eqb number 0)) → (after ≡ before) × (output ≡ shown)
+  -- where it is 0, the one stands for the next box and the other holds the ten outputs
+  pub accepted-writes-both : T (eqb number 0) → (open-box after ≡ tick (open-box before) k .state) × (tick (open-box before) k .answer ≡ Accepted output)
+
+abbrev pub Demand1InC : Type 0
+Demand1InC = (before : AirBoxC) (shown : ControllerOutput) (k : Tick) (after : AirBoxC) (output : ControllerOutput) (number : ℕ) → Ticked before k shown after output number → ByNumber before shown k after output number
