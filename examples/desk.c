@@ -4,13 +4,14 @@
 #define _POSIX_C_SOURCE 200809L
 #include <inttypes.h>
 #include "tick_line.h"
+#include "output.h"
 
 static const char *meaning(int code) {
     switch (code) {
-    case 12: return "low airflow, below half of the setpoint";
-    case 13: return "low airflow, below 70 percent of the setpoint";
-    case 23: return "airflow sensor: flow with the fan off";
-    case 34: return "leaking damper: flow with the damper closed";
+    case AIR_BOX_DESK_LOW_BELOW_HALF: return "low airflow, below half of the setpoint";
+    case AIR_BOX_DESK_LOW_BELOW_SEVENTY: return "low airflow, below 70 percent of the setpoint";
+    case AIR_BOX_DESK_AIRFLOW_SENSOR: return "airflow sensor: flow with the fan off";
+    case AIR_BOX_DESK_LEAKING_DAMPER: return "leaking damper: flow with the damper closed";
     default: return "no alarm";
     }
 }
@@ -27,32 +28,32 @@ static const char *reason(int number) {
     }
 }
 
-static void print_time(double t) {
+/* The line of an accepted tick. */
+static bool put_code(double t, int code) {
     int64_t seconds = (int64_t)t;
-    printf("%02" PRId64 ":%02" PRId64 ":%02" PRId64 "  ", seconds / 3600, seconds / 60 % 60, seconds % 60);
+    return put("%02" PRId64 ":%02" PRId64 ":%02" PRId64 "  %2d  %s\n", seconds / 3600, seconds / 60 % 60, seconds % 60, code, meaning(code));
+}
+
+/* Runs one tick, and writes its line if the reader has to know: of a refusal always, else where the code is not the one shown last. */
+static bool put_tick(AirBox *box, const AirBoxTick *tick, int *shown) {
+    AirBoxOutput o = {0};
+    uint8_t number = air_box_tick(box, tick, &o);
+    if (number != AIR_BOX_ACCEPTED) return put("--:--:--  refused %d: %s\n", number, reason(number));
+    int code = air_box_desk_code(o.low_airflow_alarm, o.airflow_sensor_alarm, o.leaking_damper_alarm);
+    if (code == *shown) return true;
+    *shown = code;
+    return put_code(tick->t, code);
 }
 
 int main(void) {
     AirBox box = air_box_fresh(false);
-    AirBoxOutput o = {0};
     AirBoxTick tick;
     TickLine line;
     int shown = -1;
     while ((line = next_tick(&box, &tick)) != END_OF_INPUT) {
-        if (line == MALFORMED) {
-            puts("--:--:--      this line is no tick");
-            continue;
-        }
-        uint8_t number = air_box_tick(&box, &tick, &o);
-        if (number != AIR_BOX_ACCEPTED) {
-            printf("--:--:--  refused %d: %s\n", number, reason(number));
-            continue;
-        }
-        int code = air_box_desk_code(o.low_airflow_alarm, o.airflow_sensor_alarm, o.leaking_damper_alarm);
-        if (code == shown) continue;
-        shown = code;
-        print_time(tick.t);
-        printf("%2d  %s\n", code, meaning(code));
+        if (line == READ_FAILED) return cannot("desk", "read the ticks");
+        bool written = line == MALFORMED ? put("--:--:--      this line is no tick\n") : put_tick(&box, &tick, &shown);
+        if (!written) return cannot("desk", "write the night");
     }
-    return 0;
+    return close_output() ? 0 : cannot("desk", "write the night");
 }

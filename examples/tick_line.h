@@ -7,7 +7,7 @@
 #include "air_box.h"
 
 enum { TICK_FIELDS = 14, TICK_DIGITS = 16 };
-typedef enum { END_OF_INPUT, MALFORMED, A_TICK } TickLine;
+typedef enum { END_OF_INPUT, READ_FAILED, MALFORMED, A_TICK } TickLine;
 
 static int hex_value(char c) {
     return c >= '0' && c <= '9' ? c - '0' : c >= 'a' && c <= 'f' ? c - 'a' + 10 : -1;
@@ -28,11 +28,13 @@ static bool tick_fields(const char *line, ssize_t n, uint64_t w[TICK_FIELDS]) {
     return true;
 }
 
-/* The next line of standard input. A start word of 1 or 2 makes the box afresh, plain or quiet; a malformed line changes nothing. */
+/* The next line of standard input. A start word of 1 or 2 makes the box afresh, plain or quiet; a malformed line changes nothing.
+   Where a read failed, its reason is in errno, and what was read of a line is no line. */
 static TickLine next_tick(AirBox *box, AirBoxTick *tick) {
     static char *line;
     static size_t room;
     ssize_t n = getline(&line, &room, stdin);
+    if (ferror(stdin) || (n < 0 && !feof(stdin))) return READ_FAILED;
     if (n < 0) return END_OF_INPUT;
     if (line[n - 1] == '\n') n--;
     uint64_t w[TICK_FIELDS];

@@ -1,7 +1,49 @@
-/* The air box for C and C++. Link with libair_box_c.a, which `rt staticlib air_box_c` writes to target/staticlib.
-   Every struct lies as the Rattle record of the same fields; the assertions below hold the sizes and offsets to it.
-   A pointer must point to a whole record of its type. Bytes that are no box or no tick, such as a flag
-   that is neither 0 nor 1, and a tick, a box and an output of which two lie over each other are the caller's fault. */
+/* The air box for C and C++: the controller of one cooling-only variable-volume air box.
+   Link with libair_box_c.a, which `rt staticlib air_box_c` writes to target/staticlib. This header and the archive are all that a program needs.
+   docs/RULES.md has the rules in full: every threshold, dead band and delay.
+
+   A box is a record of the caller's. A tick hands it a time and the readings of that time, and gets ten outputs or the number of a refusal:
+
+       AirBox box = air_box_fresh(true);                    once, at power-up: true for a quiet start
+       AirBoxOutput output = {0};                           the outputs of the last accepted tick
+
+       uint8_t number = air_box_tick(&box, &tick, &output); every minute, or as often as the readings come
+       if (number == AIR_BOX_TOO_LONG_AFTER_LAST) {         the box has lost its time: it is built afresh, and takes this tick as its first
+           box = air_box_fresh(true);
+           number = air_box_tick(&box, &tick, &output);
+       }
+       if (number != AIR_BOX_ACCEPTED) ..                   `output` still holds what the last accepted tick gave
+
+   Time. `t` is in whole seconds from any start that the caller chooses, from 0 to 2,147,483,648. Seconds since power-up last for 68 years, the
+   seconds of Unix time until January 2038. It may stand still and never goes back. Between two accepted ticks it moves by at most 240 seconds.
+
+   Refusals. A refused tick writes nothing: no byte of the box, none of the output. The last accepted command stays where the caller has it, and the
+   box goes on from its last accepted tick as if the refused one had not been. So a caller that meets a bad reading keeps its outputs and tries again.
+   But readings that stay bad let the 240 seconds run out, and from then on AIR_BOX_TOO_LONG_AFTER_LAST is the answer to every tick, however good its
+   readings are, until the box is built afresh. A loop that only goes on to the next tick leaves that box dead for the night. The lines above are the
+   way out: the fresh box has no last time, so it takes the first good tick, whenever that comes. It has forgotten its integrators, delays and memories.
+   A clock that was set back is the like: AIR_BOX_BEFORE_LAST comes until it has caught up; a box whose clock was set back for good is built afresh.
+
+   Plain or quiet. A real box takes the quiet start. With a plain start a fault that seems to stand at the first tick counts as having stood for long:
+   sixteen healthy boxes whose dampers are still closed at power-up all show code 12 at once. With a quiet start every request and alarm waits out its
+   delay first, and only real faults show. The price is that for 30 minutes after a quiet start the low airflow alarm is not armed, and shows after 35
+   at the earliest. The plain start is that of the published reference, for comparing with it.
+
+   Size. Every box is one of a design minimum of 0.5 and a cooling maximum of 1.5 cubic metres a second. Neither can be set.
+
+   What the archive needs and takes.
+   - x86-64 with the System V ABI, as on Linux and the BSDs. No other processor, and not the ABI of Windows. SSE2 is enough.
+   - Doubles rounded to nearest, exceptions masked, no flushing of small numbers to zero: the state in which a program starts. A program that is linked
+     with -ffast-math may start in another.
+   - No allocation, no global or static variable, no errno, no call out of the archive. Calls may run at the same time on different boxes; one box is ticked by one
+     thread at a time, and a signal handler does not tick a box that it may have interrupted.
+   - No loop, no recursion and no indirect jump, so the time of a call is bounded. About 500 bytes of stack were seen; no proof bounds them.
+
+   What a caller keeps to. A pointer points to a whole record of its type, and the box, the tick and the output do not lie over each other. A flag is 0 or 1.
+   A box is what air_box_fresh or a tick left, or a copy of it. The numbers of a tick may be any, NaN and infinities among them: none stops the box.
+
+   A box holds no pointer: it may be copied, by assignment or memcpy, and saved, to be loaded by the same archive. Its padding is not written, so two
+   boxes that are the same may differ in raw bytes: compare and sum up fields, and not bytes. A checksum may guard the bytes of a saved copy. */
 #ifndef AIR_BOX_H
 #define AIR_BOX_H
 
@@ -9,22 +51,138 @@
 #include <stddef.h>
 #include <stdint.h>
 
-#ifdef __cplusplus
+/* C99 and later, C++98 and later. The assertions hold each struct to the size and offsets that the archive was built with. */
+#if defined(__cplusplus) && __cplusplus >= 201103L
 #define AIR_BOX_ASSERT(fact) static_assert(fact, #fact)
-extern "C" {
-#else
+#elif !defined(__cplusplus) && defined(__STDC_VERSION__) && __STDC_VERSION__ >= 201112L
 #define AIR_BOX_ASSERT(fact) _Static_assert(fact, #fact)
+#else
+#define AIR_BOX_ASSERT_LINE(fact, line) typedef char air_box_assert_##line[(fact) ? 1 : -1]
+#define AIR_BOX_ASSERT_AT(fact, line) AIR_BOX_ASSERT_LINE(fact, line)
+#define AIR_BOX_ASSERT(fact) AIR_BOX_ASSERT_AT(fact, __LINE__)
 #endif
 
-/* What a tick returns: the number of the question that got the first "no", or accepted. */
+#ifdef __cplusplus
+extern "C" {
+#endif
+
+/* ---- What a tick returns: accepted, or the number of the first question that gets a "no". The questions are asked in this order; both ends belong to a range. */
 #define AIR_BOX_ACCEPTED 0
-#define AIR_BOX_NOT_WHOLE_SECONDS 1
-#define AIR_BOX_TIME_OUT_OF_RANGE 2
-#define AIR_BOX_BEFORE_LAST 3
-#define AIR_BOX_TOO_LONG_AFTER_LAST 4
-#define AIR_BOX_TEMPERATURE_OUT_OF_RANGE 5
-#define AIR_BOX_CO2_OUT_OF_RANGE 6
-#define AIR_BOX_AIRFLOW_OUT_OF_RANGE 7
+#define AIR_BOX_NOT_WHOLE_SECONDS 1         /* t is finite and a whole number */
+#define AIR_BOX_TIME_OUT_OF_RANGE 2         /* t is from 0 to 2,147,483,648 */
+#define AIR_BOX_BEFORE_LAST 3               /* t is not before the last accepted one; not asked before a tick was accepted */
+#define AIR_BOX_TOO_LONG_AFTER_LAST 4       /* t is at most 240 after it; not asked before a tick was accepted. For good, until air_box_fresh */
+#define AIR_BOX_TEMPERATURE_OUT_OF_RANGE 5  /* each of the five temperatures is from 150.0 to 450.0 kelvin */
+#define AIR_BOX_CO2_OUT_OF_RANGE 6          /* both CO2 values are from 0.0 to 10000.0 parts per million */
+#define AIR_BOX_AIRFLOW_OUT_OF_RANGE 7      /* the airflow is from -10.0 to 10.0 cubic metres a second */
+
+/* ---- What a tick carries */
+
+/* operating_mode. 1 is told from 2 and 3, and these from all others; 4 to 7 and any number beyond are treated alike. */
+#define AIR_BOX_MODE_OCCUPIED 1             /* the minimum flow stands; low airflow and airflow sensor alarms show in this mode alone */
+#define AIR_BOX_MODE_COOL_DOWN 2            /* no minimum; cooling up to the maximum */
+#define AIR_BOX_MODE_SETUP 3                /* the same */
+#define AIR_BOX_MODE_WARM_UP 4              /* no flow */
+#define AIR_BOX_MODE_SETBACK 5              /* the same, and so on */
+#define AIR_BOX_MODE_FREEZE_PROTECTION 6
+#define AIR_BOX_MODE_UNOCCUPIED 7
+
+/* airflow_override_index. Any other number is no override. */
+#define AIR_BOX_AIRFLOW_OVERRIDE_NONE 0
+#define AIR_BOX_AIRFLOW_OVERRIDE_ZERO 1     /* the airflow setpoint is 0 */
+#define AIR_BOX_AIRFLOW_OVERRIDE_MAXIMUM 2  /* the cooling maximum */
+#define AIR_BOX_AIRFLOW_OVERRIDE_MINIMUM 3  /* the design minimum */
+
+/* damper_override_index. Any other number is no override. */
+#define AIR_BOX_DAMPER_OVERRIDE_NONE 0
+#define AIR_BOX_DAMPER_OVERRIDE_CLOSED 1    /* the damper command is 0 */
+#define AIR_BOX_DAMPER_OVERRIDE_OPEN 2      /* it is 1 */
+
+/* window_status: true is closed, the normal state; false is open. */
+#define AIR_BOX_WINDOWS_CLOSED true
+#define AIR_BOX_WINDOWS_OPEN false          /* the outdoor airflows and the minimum flow are 0 */
+
+/* The readings and settings of a tick. Temperatures in kelvin from 150.0 to 450.0, CO2 in parts per million from 0.0 to 10000.0, airflow in cubic
+   metres a second from -10.0 to 10.0; what lies outside is refused. Flags, the mode and the override indices may be anything and are never refused. */
+typedef struct AirBoxInput {
+    double zone_temperature;
+    double cooling_setpoint;          /* above it the zone is cooled */
+    double heating_setpoint;          /* below it the zone is too cold; this box cannot heat it */
+    bool window_status;               /* true: windows closed */
+    bool occupancy_status;            /* true: there are people in the zone */
+    int64_t operating_mode;           /* AIR_BOX_MODE_.. */
+    double co2_setpoint;
+    double co2_concentration;
+    double discharge_air_temperature; /* of the air that leaves the box */
+    double supply_air_temperature;    /* of the air that comes to it */
+    double discharge_airflow;         /* as measured; a sensor may read below 0 */
+    int64_t airflow_override_index;   /* AIR_BOX_AIRFLOW_OVERRIDE_.. */
+    int64_t damper_override_index;    /* AIR_BOX_DAMPER_OVERRIDE_.. */
+    bool supply_fan_status;           /* true: the supply fan runs */
+} AirBoxInput;
+AIR_BOX_ASSERT(sizeof(AirBoxInput) == 104);
+AIR_BOX_ASSERT(offsetof(AirBoxInput, cooling_setpoint) == 8);
+AIR_BOX_ASSERT(offsetof(AirBoxInput, heating_setpoint) == 16);
+AIR_BOX_ASSERT(offsetof(AirBoxInput, window_status) == 24);
+AIR_BOX_ASSERT(offsetof(AirBoxInput, occupancy_status) == 25);
+AIR_BOX_ASSERT(offsetof(AirBoxInput, operating_mode) == 32);
+AIR_BOX_ASSERT(offsetof(AirBoxInput, co2_setpoint) == 40);
+AIR_BOX_ASSERT(offsetof(AirBoxInput, co2_concentration) == 48);
+AIR_BOX_ASSERT(offsetof(AirBoxInput, discharge_air_temperature) == 56);
+AIR_BOX_ASSERT(offsetof(AirBoxInput, supply_air_temperature) == 64);
+AIR_BOX_ASSERT(offsetof(AirBoxInput, discharge_airflow) == 72);
+AIR_BOX_ASSERT(offsetof(AirBoxInput, airflow_override_index) == 80);
+AIR_BOX_ASSERT(offsetof(AirBoxInput, damper_override_index) == 88);
+AIR_BOX_ASSERT(offsetof(AirBoxInput, supply_fan_status) == 96);
+
+/* A tick: its time in whole seconds, and what it carries. */
+typedef struct AirBoxTick {
+    double t;
+    AirBoxInput input;
+} AirBoxTick;
+AIR_BOX_ASSERT(sizeof(AirBoxTick) == 112);
+AIR_BOX_ASSERT(offsetof(AirBoxTick, input) == 8);
+
+/* ---- What an accepted tick gives */
+
+/* Alarms. 0 is no alarm; else the number is the alarm's level, of which a smaller one is the more urgent. */
+#define AIR_BOX_LOW_AIRFLOW_BELOW_HALF 2    /* low_airflow_alarm: the flow is below half of its setpoint */
+#define AIR_BOX_LOW_AIRFLOW_BELOW_SEVENTY 3 /* low_airflow_alarm: it is below 70 percent */
+#define AIR_BOX_AIRFLOW_SENSOR 3            /* airflow_sensor_alarm: flow is measured while the fan is off */
+#define AIR_BOX_LEAKING_DAMPER 4            /* leaking_damper_alarm: flow is measured while the fan is on and the damper closed */
+
+/* The ten outputs. Airflows in cubic metres a second. A request is a number of requests to the air handler, from 0 to 3, 3 the strongest. */
+typedef struct AirBoxOutput {
+    double airflow_setpoint;
+    double damper_command;                  /* from 0, closed, to 1, open */
+    double adjusted_population_flow;        /* outdoor air for the people */
+    double adjusted_area_flow;              /* outdoor air for the floor */
+    double minimum_outdoor_airflow;
+    int64_t zone_temperature_reset_request; /* for colder supply air */
+    int64_t zone_pressure_reset_request;    /* for more duct pressure */
+    int64_t low_airflow_alarm;              /* 0, 2 or 3 */
+    int64_t airflow_sensor_alarm;           /* 0 or 3 */
+    int64_t leaking_damper_alarm;           /* 0 or 4 */
+} AirBoxOutput;
+AIR_BOX_ASSERT(sizeof(AirBoxOutput) == 80);
+AIR_BOX_ASSERT(offsetof(AirBoxOutput, damper_command) == 8);
+AIR_BOX_ASSERT(offsetof(AirBoxOutput, adjusted_population_flow) == 16);
+AIR_BOX_ASSERT(offsetof(AirBoxOutput, adjusted_area_flow) == 24);
+AIR_BOX_ASSERT(offsetof(AirBoxOutput, minimum_outdoor_airflow) == 32);
+AIR_BOX_ASSERT(offsetof(AirBoxOutput, zone_temperature_reset_request) == 40);
+AIR_BOX_ASSERT(offsetof(AirBoxOutput, zone_pressure_reset_request) == 48);
+AIR_BOX_ASSERT(offsetof(AirBoxOutput, low_airflow_alarm) == 56);
+AIR_BOX_ASSERT(offsetof(AirBoxOutput, airflow_sensor_alarm) == 64);
+AIR_BOX_ASSERT(offsetof(AirBoxOutput, leaking_damper_alarm) == 72);
+
+/* The desk code: the three alarms in one number, by the first of these that fits. */
+#define AIR_BOX_DESK_LOW_BELOW_HALF 12      /* low_airflow_alarm is 2 */
+#define AIR_BOX_DESK_LOW_BELOW_SEVENTY 13   /* it is 3 */
+#define AIR_BOX_DESK_AIRFLOW_SENSOR 23      /* airflow_sensor_alarm is 3 */
+#define AIR_BOX_DESK_LEAKING_DAMPER 34      /* leaking_damper_alarm is 4 */
+#define AIR_BOX_DESK_NO_ALARM 0             /* else */
+
+/* ---- The inside of a box: what it remembers from tick to tick. Callers need none of it. */
 
 /* A time, or none. Where `present` is false, `time` has no meaning, but it must have been written. */
 typedef struct AirBoxOptionalTime {
@@ -242,30 +400,6 @@ AIR_BOX_ASSERT(offsetof(AirBoxAirflow, setpoints) == 144);
 AIR_BOX_ASSERT(offsetof(AirBoxAirflow, zone_states) == 145);
 AIR_BOX_ASSERT(offsetof(AirBoxAirflow, dampers) == 152);
 
-/* The ten outputs. Airflows in cubic metres a second; the damper command is from 0, closed, to 1, open. */
-typedef struct AirBoxOutput {
-    double airflow_setpoint;
-    double damper_command;
-    double adjusted_population_flow;
-    double adjusted_area_flow;
-    double minimum_outdoor_airflow;
-    int64_t zone_temperature_reset_request;
-    int64_t zone_pressure_reset_request;
-    int64_t low_airflow_alarm;
-    int64_t airflow_sensor_alarm;
-    int64_t leaking_damper_alarm;
-} AirBoxOutput;
-AIR_BOX_ASSERT(sizeof(AirBoxOutput) == 80);
-AIR_BOX_ASSERT(offsetof(AirBoxOutput, damper_command) == 8);
-AIR_BOX_ASSERT(offsetof(AirBoxOutput, adjusted_population_flow) == 16);
-AIR_BOX_ASSERT(offsetof(AirBoxOutput, adjusted_area_flow) == 24);
-AIR_BOX_ASSERT(offsetof(AirBoxOutput, minimum_outdoor_airflow) == 32);
-AIR_BOX_ASSERT(offsetof(AirBoxOutput, zone_temperature_reset_request) == 40);
-AIR_BOX_ASSERT(offsetof(AirBoxOutput, zone_pressure_reset_request) == 48);
-AIR_BOX_ASSERT(offsetof(AirBoxOutput, low_airflow_alarm) == 56);
-AIR_BOX_ASSERT(offsetof(AirBoxOutput, airflow_sensor_alarm) == 64);
-AIR_BOX_ASSERT(offsetof(AirBoxOutput, leaking_damper_alarm) == 72);
-
 /* The time of the last accepted tick, and the start choice. */
 typedef struct AirBoxLast {
     AirBoxOptionalTime time;
@@ -288,61 +422,24 @@ AIR_BOX_ASSERT(offsetof(AirBox, system_requests) == 352);
 AIR_BOX_ASSERT(offsetof(AirBox, alarms) == 600);
 AIR_BOX_ASSERT(offsetof(AirBox, last) == 824);
 
-/* The readings and settings of a tick. Temperatures in kelvin, CO2 in parts per million, airflow in cubic metres a second.
-   Where window_status is false, the outdoor airflows are 0. The mode and both override indices may be any numbers. */
-typedef struct AirBoxInput {
-    double zone_temperature;
-    double cooling_setpoint;
-    double heating_setpoint;
-    bool window_status;
-    bool occupancy_status;
-    int64_t operating_mode;
-    double co2_setpoint;
-    double co2_concentration;
-    double discharge_air_temperature;
-    double supply_air_temperature;
-    double discharge_airflow;
-    int64_t airflow_override_index;
-    int64_t damper_override_index;
-    bool supply_fan_status;
-} AirBoxInput;
-AIR_BOX_ASSERT(sizeof(AirBoxInput) == 104);
-AIR_BOX_ASSERT(offsetof(AirBoxInput, cooling_setpoint) == 8);
-AIR_BOX_ASSERT(offsetof(AirBoxInput, heating_setpoint) == 16);
-AIR_BOX_ASSERT(offsetof(AirBoxInput, window_status) == 24);
-AIR_BOX_ASSERT(offsetof(AirBoxInput, occupancy_status) == 25);
-AIR_BOX_ASSERT(offsetof(AirBoxInput, operating_mode) == 32);
-AIR_BOX_ASSERT(offsetof(AirBoxInput, co2_setpoint) == 40);
-AIR_BOX_ASSERT(offsetof(AirBoxInput, co2_concentration) == 48);
-AIR_BOX_ASSERT(offsetof(AirBoxInput, discharge_air_temperature) == 56);
-AIR_BOX_ASSERT(offsetof(AirBoxInput, supply_air_temperature) == 64);
-AIR_BOX_ASSERT(offsetof(AirBoxInput, discharge_airflow) == 72);
-AIR_BOX_ASSERT(offsetof(AirBoxInput, airflow_override_index) == 80);
-AIR_BOX_ASSERT(offsetof(AirBoxInput, damper_override_index) == 88);
-AIR_BOX_ASSERT(offsetof(AirBoxInput, supply_fan_status) == 96);
+/* ---- The three functions */
 
-/* A tick: its time in seconds, and what it carries. */
-typedef struct AirBoxTick {
-    double t;
-    AirBoxInput input;
-} AirBoxTick;
-AIR_BOX_ASSERT(sizeof(AirBoxTick) == 112);
-AIR_BOX_ASSERT(offsetof(AirBoxTick, input) == 8);
-
-/* A box that has had no tick. Where `quiet` is true, the true delays of requests and alarms wait also on the first tick.
-   The record stands for the fresh box of that start. */
+/* A box that has had no tick, with a quiet start where `quiet` is true, else a plain one. The choice stays with the box. */
 AirBox air_box_fresh(bool quiet);
 
-/* One tick of the box at `box`. An accepted tick returns AIR_BOX_ACCEPTED; the record then stands for the next box, and `output` holds the ten outputs.
-   A refused tick returns its number and writes neither the box nor the output. A tick may carry any numbers, NaN and infinities among them, and none stops the box. */
+/* One tick of the box at `box`. AIR_BOX_ACCEPTED: the box has moved on, and `output` holds the ten outputs.
+   Any other number: the tick is refused for that reason, and neither the box nor the output was written. */
 uint8_t air_box_tick(AirBox *box, const AirBoxTick *tick, AirBoxOutput *output);
 
-/* The desk code of the three alarms of an answer's output, by the first rule that fits.
-   It is 12, 13, 23 or 34, and 0 where no rule fits. */
+/* The desk code of three alarms, AIR_BOX_DESK_..; any numbers may be given. */
 uint8_t air_box_desk_code(int64_t low_airflow_alarm, int64_t airflow_sensor_alarm, int64_t leaking_damper_alarm);
 
 #ifdef __cplusplus
 }
 #endif
+
+#undef AIR_BOX_ASSERT
+#undef AIR_BOX_ASSERT_AT
+#undef AIR_BOX_ASSERT_LINE
 
 #endif

@@ -1,29 +1,111 @@
-//! The proved air box for Rust: a box is made with a plain or a quiet start and ticked in place.
-//! The records that cross the boundary lie as `include/air_box.h` has them; the sizes are held to it below.
+//! The proved controller of one cooling-only variable-volume air box, for Rust.
+//!
+//! A box is built with a quiet or a plain start and ticked in place. A tick gives ten outputs, or the reason why it was refused:
+//!
+//! ```
+//! use air_box::{AirBox, Input, Output, Refusal, Tick};
+//!
+//! /// What firmware does with a tick: the last accepted outputs stand until there are new ones.
+//! fn run(air_box: &mut AirBox, tick: &Tick, output: &mut Option<Output>) -> Result<(), Refusal> {
+//!     let mut answer = air_box.tick(tick);
+//!     if answer == Err(Refusal::TooLongAfterLast) {
+//!         // The box has lost its time: built afresh, it takes this tick as its first.
+//!         *air_box = AirBox::quiet();
+//!         answer = air_box.tick(tick);
+//!     }
+//!     *output = Some(answer?);
+//!     Ok(())
+//! }
+//!
+//! let mut air_box = AirBox::quiet();
+//! let mut output = None;
+//! let mut tick = Tick {
+//!     t: 0.0,
+//!     input: Input {
+//!         zone_temperature: 296.5,
+//!         cooling_setpoint: 297.0,
+//!         heating_setpoint: 293.0,
+//!         window_status: true,
+//!         occupancy_status: true,
+//!         operating_mode: 1,
+//!         co2_setpoint: 900.0,
+//!         co2_concentration: 600.0,
+//!         discharge_air_temperature: 287.0,
+//!         supply_air_temperature: 286.0,
+//!         discharge_airflow: 0.45,
+//!         airflow_override_index: 0,
+//!         damper_override_index: 0,
+//!         supply_fan_status: true,
+//!     },
+//! };
+//! assert_eq!(run(&mut air_box, &tick, &mut output), Ok(()));
+//! tick.t = 60.0;
+//! tick.input.zone_temperature = f64::NAN;
+//! assert_eq!(run(&mut air_box, &tick, &mut output), Err(Refusal::TemperatureOutOfRange));
+//! assert_eq!(output.expect("accepted before").desk_code(), 0);
+//! ```
+//!
+//! # Time
+//!
+//! `t` is in whole seconds from any start that the caller chooses, from 0 to 2,147,483,648. It may stand still and never goes back. Between two
+//! accepted ticks it moves by at most 240 seconds.
+//!
+//! # Refusals
+//!
+//! A refused tick changes nothing. After bad readings for more than 240 seconds every tick is refused with [`Refusal::TooLongAfterLast`], however good it
+//! is, until the box is built afresh: a loop that only goes on leaves the box dead for the night. The fresh box takes the first good tick, whenever
+//! that comes, and has forgotten what the old one remembered.
+//!
+//! # Plain or quiet
+//!
+//! A real box takes the quiet start: every request and alarm then waits out its delay before it shows. With a plain start a fault that seems to stand at
+//! the first tick counts as having stood for long, so boxes whose dampers are still closed at power-up all show code 12 at once. It is the start of the
+//! published reference, for comparing with it.
+//!
+//! # What it needs
+//!
+//! x86-64 with the System V ABI; doubles rounded to nearest, exceptions masked, small numbers not flushed to zero. Nothing is allocated, and no `std` is used.
+//! Every box has a design minimum of 0.5 and a cooling maximum of 1.5 cubic metres a second.
+//! The records that cross the boundary lie as `include/air_box.h` has them, where more is said; `docs/RULES.md` has the rules in full.
 
-use std::mem::{MaybeUninit, size_of};
+#![no_std]
 
-/// The readings and settings of a tick. Temperatures in kelvin, CO2 in parts per million, airflow in cubic metres a second.
+use core::error::Error;
+use core::fmt;
+use core::mem::{offset_of, size_of, MaybeUninit};
+
+/// The readings and settings of a tick. What lies outside of a range is refused; flags, the mode and the override indices are never refused.
 #[repr(C)]
 #[derive(Clone, Copy, Debug, PartialEq)]
 pub struct Input {
+    /// Kelvin, from 150.0 to 450.0, as all five temperatures.
     pub zone_temperature: f64,
     pub cooling_setpoint: f64,
     pub heating_setpoint: f64,
+    /// True: windows closed, the normal state. False: open, which makes the outdoor airflows and the minimum flow 0.
     pub window_status: bool,
+    /// True: there are people in the zone.
     pub occupancy_status: bool,
+    /// 1 occupied, 2 cool-down, 3 setup; 4 warm-up, 5 setback, 6 freeze protection, 7 unoccupied and any other number are treated alike.
     pub operating_mode: i64,
+    /// Parts per million, from 0.0 to 10000.0, as is the concentration.
     pub co2_setpoint: f64,
     pub co2_concentration: f64,
+    /// Of the air that leaves the box.
     pub discharge_air_temperature: f64,
+    /// Of the air that comes to it.
     pub supply_air_temperature: f64,
+    /// Cubic metres a second, from -10.0 to 10.0.
     pub discharge_airflow: f64,
+    /// 1 makes the airflow setpoint 0, 2 the cooling maximum, 3 the design minimum; any other number is no override.
     pub airflow_override_index: i64,
+    /// 1 closes the damper, 2 opens it; any other number is no override.
     pub damper_override_index: i64,
+    /// True: the supply fan runs.
     pub supply_fan_status: bool,
 }
 
-/// A tick: its time in seconds, and what it carries.
+/// A tick: its time in whole seconds, and what it carries.
 #[repr(C)]
 #[derive(Clone, Copy, Debug, PartialEq)]
 pub struct Tick {
@@ -31,41 +113,99 @@ pub struct Tick {
     pub input: Input,
 }
 
-/// The ten outputs of an accepted tick.
+/// The ten outputs of an accepted tick. Airflows in cubic metres a second; requests are from 0 to 3, 3 the strongest.
 #[repr(C)]
 #[derive(Clone, Copy, Debug, PartialEq)]
 pub struct Output {
     pub airflow_setpoint: f64,
+    /// From 0, closed, to 1, open.
     pub damper_command: f64,
     pub adjusted_population_flow: f64,
     pub adjusted_area_flow: f64,
     pub minimum_outdoor_airflow: f64,
+    /// For colder supply air.
     pub zone_temperature_reset_request: i64,
+    /// For more duct pressure.
     pub zone_pressure_reset_request: i64,
+    /// 2: the flow is below half of its setpoint. 3: below 70 percent. Else 0.
     pub low_airflow_alarm: i64,
+    /// 3: flow is measured while the fan is off. Else 0.
     pub airflow_sensor_alarm: i64,
+    /// 4: flow is measured while the fan is on and the damper closed. Else 0.
     pub leaking_damper_alarm: i64,
 }
 
-/// Why a tick was refused. The number is that of the question that got the first "no".
-#[derive(Clone, Copy, Debug, PartialEq, Eq)]
+impl Output {
+    /// The desk code of the three alarms.
+    pub fn desk_code(&self) -> u8 {
+        desk_code(
+            self.low_airflow_alarm,
+            self.airflow_sensor_alarm,
+            self.leaking_damper_alarm,
+        )
+    }
+}
+
+/// Why a tick was refused: the question that got the first "no", whose number it is. The ends of a range belong to it.
+#[derive(Clone, Copy, Debug, PartialEq, Eq, Hash)]
 #[repr(u8)]
 pub enum Refusal {
+    /// `t` is no whole number, or not finite.
     NotWholeSeconds = 1,
+    /// `t` is not from 0 to 2,147,483,648.
     TimeOutOfRange = 2,
+    /// `t` is before that of the last accepted tick.
     BeforeLast = 3,
+    /// `t` is more than 240 after that of the last accepted tick. Every later tick is refused so: the box has to be built afresh.
     TooLongAfterLast = 4,
+    /// One of the five temperatures is not from 150.0 to 450.0.
     TemperatureOutOfRange = 5,
+    /// A CO2 value is not from 0.0 to 10000.0.
     Co2OutOfRange = 6,
+    /// The airflow is not from -10.0 to 10.0.
     AirflowOutOfRange = 7,
 }
 
-/// The record that stands for a box, which only the archive reads and whose padding may be unwritten.
+impl fmt::Display for Refusal {
+    fn fmt(&self, f: &mut fmt::Formatter<'_>) -> fmt::Result {
+        f.write_str(match self {
+            Refusal::NotWholeSeconds => "the time is no whole number of seconds",
+            Refusal::TimeOutOfRange => "the time is not from 0 to 2147483648",
+            Refusal::BeforeLast => "the time is before that of the last accepted tick",
+            Refusal::TooLongAfterLast => {
+                "more than 240 seconds after the last accepted tick: build the box afresh"
+            }
+            Refusal::TemperatureOutOfRange => "a temperature is not from 150 to 450 kelvin",
+            Refusal::Co2OutOfRange => "a CO2 value is not from 0 to 10000 parts per million",
+            Refusal::AirflowOutOfRange => "the airflow is not from -10 to 10 cubic metres a second",
+        })
+    }
+}
+
+impl Error for Refusal {}
+
+/// What the record holds beside the controller's state.
 #[repr(C)]
 #[derive(Clone, Copy)]
-struct Record([MaybeUninit<u64>; 106]);
+struct Last {
+    present: bool,
+    time: f64,
+    quiet: bool,
+}
 
-const _: () = assert!(size_of::<Record>() == 848 && size_of::<Tick>() == 112 && size_of::<Output>() == 80);
+/// The record that stands for a box. Only the archive reads its state, whose padding may be unwritten.
+#[repr(C)]
+#[derive(Clone, Copy)]
+struct Record {
+    state: [MaybeUninit<u64>; 103],
+    last: Last,
+}
+
+const _: () =
+    assert!(size_of::<Record>() == 848 && size_of::<Tick>() == 112 && size_of::<Output>() == 80);
+const _: () = assert!(
+    offset_of!(Record, last) == 824 && offset_of!(Last, time) == 8 && offset_of!(Last, quiet) == 16
+);
 
 extern "C" {
     fn air_box_fresh(quiet: bool) -> Record;
@@ -73,19 +213,19 @@ extern "C" {
     fn air_box_desk_code(low_airflow: i64, airflow_sensor: i64, leaking_damper: i64) -> u8;
 }
 
-/// A cooling-only air box.
+/// A cooling-only air box. It may be cloned; the clone goes its own way.
 #[derive(Clone)]
 pub struct AirBox(Record);
 
 impl AirBox {
+    /// A box that has had no tick, with a quiet start: the one that a real box takes.
+    pub fn quiet() -> AirBox {
+        AirBox(unsafe { air_box_fresh(true) })
+    }
+
     /// A box that has had no tick, with a plain start.
     pub fn plain() -> AirBox {
         AirBox(unsafe { air_box_fresh(false) })
-    }
-
-    /// A box that has had no tick, with a quiet start.
-    pub fn quiet() -> AirBox {
-        AirBox(unsafe { air_box_fresh(true) })
     }
 
     /// One tick: the ten outputs, or the refusal, which leaves the box as it was.
@@ -106,7 +246,17 @@ impl AirBox {
     }
 }
 
-/// The desk code of the three alarms.
+impl fmt::Debug for AirBox {
+    fn fmt(&self, f: &mut fmt::Formatter<'_>) -> fmt::Result {
+        let last = self.0.last;
+        f.debug_struct("AirBox")
+            .field("last_time", &last.present.then_some(last.time))
+            .field("quiet", &last.quiet)
+            .finish_non_exhaustive()
+    }
+}
+
+/// The desk code of three alarms, by the first rule that fits: 12 and 13 for low airflow 2 and 3, 23 for sensor 3, 34 for leak 4, else 0.
 pub fn desk_code(low_airflow: i64, airflow_sensor: i64, leaking_damper: i64) -> u8 {
     unsafe { air_box_desk_code(low_airflow, airflow_sensor, leaking_damper) }
 }

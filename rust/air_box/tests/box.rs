@@ -1,6 +1,6 @@
-//! What a user of the wrapper relies on: refusals change nothing, the starts differ, the codes are document 01's.
+//! What a user of the wrapper relies on: refusals change nothing and say why, a box past its time is built afresh, the starts differ, the desk codes.
 
-use air_box::{AirBox, Input, Refusal, Tick, desk_code};
+use air_box::{desk_code, AirBox, Input, Refusal, Tick};
 
 fn at(t: f64) -> Tick {
     Tick {
@@ -27,7 +27,10 @@ fn at(t: f64) -> Tick {
 #[test]
 fn first_tick_with_override_two() {
     let output = AirBox::plain().tick(&at(0.0)).expect("accepted");
-    assert_eq!((output.airflow_setpoint, output.damper_command), (1.5, 0.25));
+    assert_eq!(
+        (output.airflow_setpoint, output.damper_command),
+        (1.5, 0.25)
+    );
 }
 
 #[test]
@@ -62,7 +65,58 @@ fn quiet_start_waits_with_the_low_alarm() {
 
 #[test]
 fn desk_codes() {
-    let alarms = [(2, 3, 4), (3, 3, 4), (0, 3, 4), (0, 0, 4), (0, 0, 0), (7, -1, 12)];
+    let alarms = [
+        (2, 3, 4),
+        (3, 3, 4),
+        (0, 3, 4),
+        (0, 0, 4),
+        (0, 0, 0),
+        (7, -1, 12),
+    ];
     let codes = alarms.map(|(low, sensor, leak)| desk_code(low, sensor, leak));
     assert_eq!(codes, [12, 13, 23, 34, 0, 0]);
+}
+
+#[test]
+fn an_output_has_its_desk_code() {
+    let mut tick = at(0.0);
+    tick.input.discharge_airflow = 0.0;
+    let output = AirBox::plain().tick(&tick).expect("accepted");
+    assert_eq!((output.low_airflow_alarm, output.desk_code()), (2, 12));
+}
+
+#[test]
+fn a_box_past_its_time_takes_ticks_again_once_built_afresh() {
+    let mut air_box = AirBox::quiet();
+    air_box.tick(&at(0.0)).expect("accepted");
+    for t in [241.0, 300.0, 36_000.0] {
+        assert_eq!(air_box.tick(&at(t)), Err(Refusal::TooLongAfterLast));
+    }
+    air_box = AirBox::quiet();
+    air_box.tick(&at(36_060.0)).expect("accepted");
+}
+
+#[test]
+fn a_refusal_is_an_error_that_says_why() {
+    let refusal: Box<dyn std::error::Error> =
+        Box::new(AirBox::plain().tick(&at(0.5)).expect_err("refused"));
+    assert_eq!(
+        refusal.to_string(),
+        "the time is no whole number of seconds"
+    );
+    assert_eq!(Refusal::AirflowOutOfRange as u8, 7);
+}
+
+#[test]
+fn debug_shows_the_last_time_and_the_start() {
+    let mut air_box = AirBox::quiet();
+    assert_eq!(
+        format!("{air_box:?}"),
+        "AirBox { last_time: None, quiet: true, .. }"
+    );
+    air_box.tick(&at(60.0)).expect("accepted");
+    assert_eq!(
+        format!("{air_box:?}"),
+        "AirBox { last_time: Some(60.0), quiet: true, .. }"
+    );
 }

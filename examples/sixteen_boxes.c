@@ -1,0 +1,92 @@
+/* Sixteen boxes for an hour, with nothing but air_box.h and the archive: what firmware does with a refusal, and why a real box takes the quiet start.
+   Three boxes are in trouble. The damper of box 11 is told to close and leaks; the duct of box 5 is blocked; the zone sensor of box 3 fails for ten minutes.
+   Build: gcc -O2 -Iinclude examples/sixteen_boxes.c target/staticlib/libair_box_c.a -o target/sixteen_boxes
+   Run:   target/sixteen_boxes          or, to see the other start: target/sixteen_boxes plain */
+#include <errno.h>
+#include <math.h>
+#include <stdio.h>
+#include <string.h>
+#include "air_box.h"
+
+enum { BOXES = 16, STEP = 60, HOUR = 3600, FAILING = 3, BLOCKED = 5, LEAKING = 11 };
+
+/* What the firmware keeps of a box. The output is its own: no tick that is refused touches it. */
+typedef struct Unit {
+    AirBox box;
+    AirBoxOutput output;
+    uint8_t number; /* of the last tick */
+    int code;       /* of the last accepted tick */
+} Unit;
+
+static const char *meaning(int code) {
+    switch (code) {
+    case AIR_BOX_DESK_LOW_BELOW_HALF: return "low airflow, below half of the setpoint";
+    case AIR_BOX_DESK_LOW_BELOW_SEVENTY: return "low airflow, below 70 percent of the setpoint";
+    case AIR_BOX_DESK_AIRFLOW_SENSOR: return "flow with the fan off: look at the airflow sensor";
+    case AIR_BOX_DESK_LEAKING_DAMPER: return "flow with the damper closed: look at the damper";
+    default: return "no alarm";
+    }
+}
+
+/* The building: what the sensors of box i read at second t while its damper stands at `damper`. */
+static AirBoxTick readings(int i, int t, double damper) {
+    AirBoxTick tick = {0};
+    tick.t = t;
+    tick.input.zone_temperature = i == FAILING && t >= 1200 && t < 1800 ? NAN : 297.5;
+    tick.input.cooling_setpoint = 297.0;
+    tick.input.heating_setpoint = 293.0;
+    tick.input.window_status = AIR_BOX_WINDOWS_CLOSED;
+    tick.input.occupancy_status = true;
+    tick.input.operating_mode = AIR_BOX_MODE_OCCUPIED;
+    tick.input.co2_setpoint = 900.0;
+    tick.input.co2_concentration = 600.0;
+    tick.input.discharge_air_temperature = 287.0;
+    tick.input.supply_air_temperature = 286.0;
+    tick.input.discharge_airflow = i == LEAKING ? 0.3 : (i == BLOCKED ? 0.2 : 1.5) * damper;
+    tick.input.airflow_override_index = i == LEAKING ? AIR_BOX_AIRFLOW_OVERRIDE_ZERO : AIR_BOX_AIRFLOW_OVERRIDE_NONE;
+    tick.input.damper_override_index = i == LEAKING ? AIR_BOX_DAMPER_OVERRIDE_CLOSED : AIR_BOX_DAMPER_OVERRIDE_NONE;
+    tick.input.supply_fan_status = true;
+    return tick;
+}
+
+/* One tick of a box, and what firmware does with the number. Whether all lines could be written. */
+static bool run(Unit *unit, int i, int t, bool quiet) {
+    AirBoxTick tick = readings(i, t, unit->output.damper_command);
+    uint8_t last = unit->number;
+    unit->number = air_box_tick(&unit->box, &tick, &unit->output);
+    if (unit->number == AIR_BOX_TOO_LONG_AFTER_LAST) {
+        unit->box = air_box_fresh(quiet);
+        unit->number = air_box_tick(&unit->box, &tick, &unit->output);
+        if (printf("%02d:%02d  box %2d  more than 240 seconds without a good tick: built afresh\n", t / 60, t % 60, i) < 0) return false;
+    }
+    if (unit->number != last) {
+        if (unit->number != AIR_BOX_ACCEPTED)
+            return printf("%02d:%02d  box %2d  refused %d, the damper stays at %.2f\n", t / 60, t % 60, i, unit->number, unit->output.damper_command) >= 0;
+        if (printf("%02d:%02d  box %2d  accepted again\n", t / 60, t % 60, i) < 0) return false;
+    }
+    if (unit->number != AIR_BOX_ACCEPTED) return true;
+    const AirBoxOutput *o = &unit->output;
+    int code = air_box_desk_code(o->low_airflow_alarm, o->airflow_sensor_alarm, o->leaking_damper_alarm);
+    if (code == unit->code) return true;
+    unit->code = code;
+    return printf("%02d:%02d  box %2d  code %2d  %s\n", t / 60, t % 60, i, code, meaning(code)) >= 0;
+}
+
+static int cannot_write(void) {
+    fprintf(stderr, "sixteen_boxes: cannot write: %s\n", strerror(errno));
+    return 1;
+}
+
+int main(int count, char **arguments) {
+    bool quiet = !(count == 2 && strcmp(arguments[1], "plain") == 0);
+    if (count > 2 || (count == 2 && quiet)) {
+        fputs("sixteen_boxes: the only argument is plain\n", stderr);
+        return 2;
+    }
+    static Unit units[BOXES];
+    for (int i = 0; i < BOXES; i++) units[i].box = air_box_fresh(quiet);
+    for (int t = 0; t <= HOUR; t += STEP)
+        for (int i = 0; i < BOXES; i++)
+            if (!run(&units[i], i, t, quiet)) return cannot_write();
+    return fclose(stdout) == 0 ? 0 : cannot_write();
+}
