@@ -6,6 +6,7 @@
    Run:   target/decimals < my_ticks.txt | target/bin/ticks | target/decimals --answers */
 #define _POSIX_C_SOURCE 200809L
 #include <inttypes.h>
+#include <math.h>
 #include <stdbool.h>
 #include <stdlib.h>
 #include <sys/types.h>
@@ -21,13 +22,13 @@ static bool start_word(const char *text, uint64_t *word) {
     return *word != 0 || strcmp(text, "next") == 0;
 }
 
-/* The bits of the f64 nearest to the decimal. */
+/* The bits of the f64 nearest to the decimal. One too large is no number; one near 0 is, though strtod may have something to say of it. */
 static bool real(const char *text, uint64_t *word) {
     char *end;
     errno = 0;
     double x = strtod(text, &end);
     memcpy(word, &x, sizeof x);
-    return *text != '\0' && *end == '\0' && errno == 0;
+    return *text != '\0' && *end == '\0' && (errno == 0 || fabs(x) < 1.0);
 }
 
 static bool integer(const char *text, int64_t least, int64_t most, uint64_t *word) {
@@ -88,16 +89,19 @@ static bool put_answer(const char *text) {
     return put("%s\n", text + past);
 }
 
-/* A line of decimals, unless it is to be left out. A byte 0 would hide what stands after it. */
-static int put_tick(char *line, size_t length, unsigned long number) {
+/* A line of decimals, unless it is to be left out. The status of the program. */
+static int put_tick(char *line, unsigned long number) {
     uint64_t word[FIELDS];
-    if (strlen(line) != length) {
-        fprintf(stderr, "decimals: line %lu: it has a byte 0\n", number);
-        return 1;
-    }
     if (line[0] == '#' || line[strspn(line, between)] == '\0') return 0;
     if (!words(line, number, word)) return 1;
     return put_line(word) ? 0 : cannot("decimals", "write");
+}
+
+/* Whether the line has no byte 0, which would hide what stands after it. */
+static bool is_text(const char *line, size_t length, unsigned long number) {
+    if (strlen(line) == length) return true;
+    fprintf(stderr, "decimals: line %lu: it has a byte 0\n", number);
+    return false;
 }
 
 int main(int count, char **arguments) {
@@ -112,8 +116,9 @@ int main(int count, char **arguments) {
     int status = 0;
     for (unsigned long number = 1; status == 0 && (n = getline(&line, &room, stdin)) >= 0 && !ferror(stdin); number++) {
         if (line[n - 1] == '\n') line[--n] = '\0';
-        if (answers) status = put_answer(line) ? 0 : cannot("decimals", "write");
-        else status = put_tick(line, (size_t)n, number);
+        if (!is_text(line, (size_t)n, number)) status = 1;
+        else if (answers) status = put_answer(line) ? 0 : cannot("decimals", "write");
+        else status = put_tick(line, number);
     }
     if (status == 0 && !feof(stdin)) status = cannot("decimals", "read");
     return close_output() || status != 0 ? status : cannot("decimals", "write");

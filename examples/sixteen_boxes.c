@@ -4,6 +4,7 @@
    Run:   target/sixteen_boxes          or, to see the other start: target/sixteen_boxes plain */
 #include <errno.h>
 #include <math.h>
+#include <stdarg.h>
 #include <stdio.h>
 #include <string.h>
 #include "air_box.h"
@@ -15,6 +16,7 @@ typedef struct Unit {
     AirBox box;
     AirBoxOutput output;
     uint8_t number; /* of the last tick */
+    int lost;       /* refusals 3 and 4 in a row */
     int code;       /* of the last accepted tick */
 } Unit;
 
@@ -49,27 +51,46 @@ static AirBoxTick readings(int i, int t, double damper) {
     return tick;
 }
 
-/* One tick of a box, and what firmware does with the number. Whether all lines could be written. */
+/* One tick of a box. A box that its clock has lost, to the past or by more than 240 seconds, is built afresh, and takes this tick as its first:
+   not at once, since one false time far ahead would then put it out of reach of the right ones. Whether it was. */
+static bool ticked_afresh(Unit *unit, const AirBoxTick *tick, bool quiet) {
+    unit->number = air_box_tick(&unit->box, tick, &unit->output);
+    bool lost = unit->number == AIR_BOX_BEFORE_LAST || unit->number == AIR_BOX_TOO_LONG_AFTER_LAST;
+    unit->lost = lost ? unit->lost + 1 : 0;
+    if (unit->lost < 3) return false;
+    unit->lost = 0;
+    unit->box = air_box_fresh(quiet);
+    unit->number = air_box_tick(&unit->box, tick, &unit->output);
+    return true;
+}
+
+/* A line of the log, of box i at second t; whether it was written. */
+static bool put_line(int t, int i, const char *format, ...) {
+    va_list rest;
+    va_start(rest, format);
+    bool written = printf("%02d:%02d  box %2d  ", t / 60, t % 60, i) >= 0 && vprintf(format, rest) >= 0 && putchar('\n') != EOF;
+    va_end(rest);
+    return written;
+}
+
+/* What is logged of a number that is not that of the tick before. */
+static bool put_number(int t, int i, const Unit *unit) {
+    if (unit->number == AIR_BOX_ACCEPTED) return put_line(t, i, "accepted again");
+    return put_line(t, i, "refused %d, the damper stays at %.2f", unit->number, unit->output.damper_command);
+}
+
+/* One tick of box i at second t, and the log of what changed. Whether all was written. */
 static bool run(Unit *unit, int i, int t, bool quiet) {
     AirBoxTick tick = readings(i, t, unit->output.damper_command);
     uint8_t last = unit->number;
-    unit->number = air_box_tick(&unit->box, &tick, &unit->output);
-    if (unit->number == AIR_BOX_TOO_LONG_AFTER_LAST) {
-        unit->box = air_box_fresh(quiet);
-        unit->number = air_box_tick(&unit->box, &tick, &unit->output);
-        if (printf("%02d:%02d  box %2d  more than 240 seconds without a good tick: built afresh\n", t / 60, t % 60, i) < 0) return false;
-    }
-    if (unit->number != last) {
-        if (unit->number != AIR_BOX_ACCEPTED)
-            return printf("%02d:%02d  box %2d  refused %d, the damper stays at %.2f\n", t / 60, t % 60, i, unit->number, unit->output.damper_command) >= 0;
-        if (printf("%02d:%02d  box %2d  accepted again\n", t / 60, t % 60, i) < 0) return false;
-    }
+    if (ticked_afresh(unit, &tick, quiet) && !put_line(t, i, "built afresh")) return false;
+    if (unit->number != last && !put_number(t, i, unit)) return false;
     if (unit->number != AIR_BOX_ACCEPTED) return true;
     const AirBoxOutput *o = &unit->output;
     int code = air_box_desk_code(o->low_airflow_alarm, o->airflow_sensor_alarm, o->leaking_damper_alarm);
     if (code == unit->code) return true;
     unit->code = code;
-    return printf("%02d:%02d  box %2d  code %2d  %s\n", t / 60, t % 60, i, code, meaning(code)) >= 0;
+    return put_line(t, i, "code %2d  %s", code, meaning(code));
 }
 
 static int cannot_write(void) {

@@ -4,52 +4,69 @@
 
    A box is a record of the caller's. A tick hands it a time and the readings of that time, and gets ten outputs or the number of a refusal:
 
-       AirBox box = air_box_fresh(true);                    once, at power-up: true for a quiet start
-       AirBoxOutput output = {0};                           the outputs of the last accepted tick
+       AirBox box = air_box_fresh(true);                     // once, at power-up; true: a quiet start
+       AirBoxOutput output = {0};                            // one for each box: what its last accepted tick gave
+       int lost = 0;                                         // refusals 3 and 4 in a row
 
-       uint8_t number = air_box_tick(&box, &tick, &output); every minute, or as often as the readings come
-       if (number == AIR_BOX_TOO_LONG_AFTER_LAST) {         the box has lost its time: it is built afresh, and takes this tick as its first
+       uint8_t number = air_box_tick(&box, &tick, &output);  // every minute
+       if (number != AIR_BOX_BEFORE_LAST && number != AIR_BOX_TOO_LONG_AFTER_LAST) {
+           lost = 0;
+       } else if (++lost == 3) {                             // box and clock have lost each other: the box is built afresh
+           lost = 0;
            box = air_box_fresh(true);
-           number = air_box_tick(&box, &tick, &output);
+           number = air_box_tick(&box, &tick, &output);      // this tick is its first
        }
-       if (number != AIR_BOX_ACCEPTED) ..                   `output` still holds what the last accepted tick gave
+       if (number != AIR_BOX_ACCEPTED) report(number);       // `output` still holds what the last accepted tick gave
 
-   Time. `t` is in whole seconds from any start that the caller chooses, from 0 to 2,147,483,648. Seconds since power-up last for 68 years, the
-   seconds of Unix time until January 2038. It may stand still and never goes back. Between two accepted ticks it moves by at most 240 seconds.
+   Time. `t` is in whole seconds from any start that the caller chooses, from 0 to 2,147,483,648. A clock that is never set, such as seconds since
+   power-up, is best; it lasts for 68 years, and Unix time until January 2038. `t` never goes back. It may stand still: a second tick at the same time
+   adds no seconds. Between two accepted ticks it moves by at most 240. A tick a minute is what the controller is made for. A caller that ticks less often
+   than every 240 seconds rebuilds its box again and again, and such a box shows no alarm.
+   A box samples at the multiples of 120 of `t`. Where the first accepted `t` is no multiple of 120, the first cooling setpoint may count as a change, and
+   temperature requests 2 and 3 are then kept back for up to half an hour. Seconds counted from the box's own first tick avoid that.
 
    Refusals. A refused tick writes nothing: no byte of the box, none of the output. The last accepted command stays where the caller has it, and the
    box goes on from its last accepted tick as if the refused one had not been. So a caller that meets a bad reading keeps its outputs and tries again.
-   But readings that stay bad let the 240 seconds run out, and from then on AIR_BOX_TOO_LONG_AFTER_LAST is the answer to every tick, however good its
-   readings are, until the box is built afresh. A loop that only goes on to the next tick leaves that box dead for the night. The lines above are the
-   way out: the fresh box has no last time, so it takes the first good tick, whenever that comes. It has forgotten its integrators, delays and memories.
-   A clock that was set back is the like: AIR_BOX_BEFORE_LAST comes until it has caught up; a box whose clock was set back for good is built afresh.
+   But readings that stay bad let the 240 seconds run out. From then on a clock that goes on gets AIR_BOX_TOO_LONG_AFTER_LAST for every tick, however good
+   its readings are, until the box is built afresh: a loop that only goes on to the next tick leaves that box dead for the night. A clock that was set
+   back gets AIR_BOX_BEFORE_LAST until it has caught up. The lines above are the way out of both. They wait for three such refusals in a row, since a
+   box that is built at one false time far ahead would refuse the right times that follow. A fresh box has no last time and takes the first good
+   tick, whenever that comes. It has forgotten all: its alarms show 0 until they have waited out their delays again, and its damper and loops start anew.
+   Until its first accepted tick the outputs are what the caller put there. The desk code does not show refusals: report the number beside it.
 
    Plain or quiet. A real box takes the quiet start. With a plain start a fault that seems to stand at the first tick counts as having stood for long:
-   sixteen healthy boxes whose dampers are still closed at power-up all show code 12 at once. With a quiet start every request and alarm waits out its
-   delay first, and only real faults show. The price is that for 30 minutes after a quiet start the low airflow alarm is not armed, and shows after 35
+   sixteen healthy boxes that power up in occupied mode with the fan on and their dampers still closed all show code 12 at once. With a quiet start
+   every alarm, and every request above 1, waits out its delay first, and only real faults show. The price: low airflow is armed when the fan has been on
+   for 30 minutes, which after any fan start holds for both starts, but with a quiet one after power-up too; so that alarm shows after 35 minutes
    at the earliest. The plain start is that of the published reference, for comparing with it.
 
-   Size. Every box is one of a design minimum of 0.5 and a cooling maximum of 1.5 cubic metres a second. Neither can be set.
+   Size. Every box has a design minimum of 0.5 and a cooling maximum of 1.5 cubic metres a second. Neither can be set.
 
    What the archive needs and takes.
    - x86-64 with the System V ABI, as on Linux and the BSDs. No other processor, and not the ABI of Windows. SSE2 is enough.
    - Doubles rounded to nearest, exceptions masked, no flushing of small numbers to zero: the state in which a program starts. A program that is linked
      with -ffast-math may start in another.
-   - No allocation, no global or static variable, no errno, no call out of the archive. Calls may run at the same time on different boxes; one box is ticked by one
-     thread at a time, and a signal handler does not tick a box that it may have interrupted.
-   - No loop, no recursion and no indirect jump, so the time of a call is bounded. About 500 bytes of stack were seen; no proof bounds them.
+   - No allocation, no global or static variable, no errno, no call out of the archive. Calls may run at the same time on different boxes; one box is
+     ticked by one thread at a time, and a signal handler does not tick a box that it may have interrupted.
+   - No loop, no recursion and no indirect jump, so the time of a call is bounded. A tick was seen to take about 500 bytes of stack; no proof bounds them.
 
-   What a caller keeps to. A pointer points to a whole record of its type, and the box, the tick and the output do not lie over each other. A flag is 0 or 1.
-   A box is what air_box_fresh or a tick left, or a copy of it. The numbers of a tick may be any, NaN and infinities among them: none stops the box.
+   What a caller keeps to. A pointer points to a whole record of its type, and the box, the tick and the output do not lie over each other. A flag is 0 or 1,
+   and nothing else. A box is what air_box_fresh or a tick left, or a copy of it. The other numbers of a tick may be any, NaN and infinities among them:
+   none stops the box.
 
-   A box holds no pointer: it may be copied, by assignment or memcpy, and saved, to be loaded by the same archive. Its padding is not written, so two
-   boxes that are the same may differ in raw bytes: compare and sum up fields, and not bytes. A checksum may guard the bytes of a saved copy. */
+   A box holds no pointer: it may be copied, by assignment or memcpy, and saved, to be loaded by a program with the same archive; the caller keeps a
+   version beside it. A loaded box goes on where the same clock has moved on by at most 240 seconds; else a fresh one is needed. Its padding is not
+   written, so two boxes that are the same may differ in raw bytes: to compare two, compare their fields. */
 #ifndef AIR_BOX_H
 #define AIR_BOX_H
 
 #include <stdbool.h>
 #include <stddef.h>
 #include <stdint.h>
+
+#if !defined(__x86_64__) || defined(__ILP32__) || defined(_WIN32)
+#error "the archive of the air box is for x86-64 with the System V ABI"
+#endif
 
 /* C99 and later, C++98 and later. The assertions hold each struct to the size and offsets that the archive was built with. */
 #if defined(__cplusplus) && __cplusplus >= 201103L
@@ -66,24 +83,25 @@
 extern "C" {
 #endif
 
-/* ---- What a tick returns: accepted, or the number of the first question that gets a "no". The questions are asked in this order; both ends belong to a range. */
+/* ---- What a tick returns: accepted, or the number of the first question that gets a "no". They are asked in this order; both ends belong to a range. */
 #define AIR_BOX_ACCEPTED 0
-#define AIR_BOX_NOT_WHOLE_SECONDS 1         /* t is finite and a whole number */
-#define AIR_BOX_TIME_OUT_OF_RANGE 2         /* t is from 0 to 2,147,483,648 */
-#define AIR_BOX_BEFORE_LAST 3               /* t is not before the last accepted one; not asked before a tick was accepted */
-#define AIR_BOX_TOO_LONG_AFTER_LAST 4       /* t is at most 240 after it; not asked before a tick was accepted. For good, until air_box_fresh */
-#define AIR_BOX_TEMPERATURE_OUT_OF_RANGE 5  /* each of the five temperatures is from 150.0 to 450.0 kelvin */
-#define AIR_BOX_CO2_OUT_OF_RANGE 6          /* both CO2 values are from 0.0 to 10000.0 parts per million */
-#define AIR_BOX_AIRFLOW_OUT_OF_RANGE 7      /* the airflow is from -10.0 to 10.0 cubic metres a second */
+#define AIR_BOX_NOT_WHOLE_SECONDS 1         /* refused unless t is finite and a whole number */
+#define AIR_BOX_TIME_OUT_OF_RANGE 2         /* refused unless t is from 0 to 2,147,483,648 */
+#define AIR_BOX_BEFORE_LAST 3               /* refused unless t is that of the last accepted tick or later; not asked where there is none */
+#define AIR_BOX_TOO_LONG_AFTER_LAST 4       /* refused unless t is at most 240 after it; not asked where there is none. Lasts until air_box_fresh */
+#define AIR_BOX_TEMPERATURE_OUT_OF_RANGE 5  /* refused unless each of the five temperatures is from 150.0 to 450.0 kelvin */
+#define AIR_BOX_CO2_OUT_OF_RANGE 6          /* refused unless both CO2 values are from 0.0 to 10000.0 parts per million */
+#define AIR_BOX_AIRFLOW_OUT_OF_RANGE 7      /* refused unless the airflow is from -10.0 to 10.0 cubic metres a second */
 
 /* ---- What a tick carries */
 
-/* operating_mode. 1 is told from 2 and 3, and these from all others; 4 to 7 and any number beyond are treated alike. */
-#define AIR_BOX_MODE_OCCUPIED 1             /* the minimum flow stands; low airflow and airflow sensor alarms show in this mode alone */
-#define AIR_BOX_MODE_COOL_DOWN 2            /* no minimum; cooling up to the maximum */
+/* operating_mode. 4 to 7, and any number outside of 1 to 7, are treated alike. Where the airflow setpoint is 0 the damper closes only as far as the
+   measured flow asks; damper override 1 closes it. */
+#define AIR_BOX_MODE_OCCUPIED 1             /* a minimum flow with people in and windows closed; low airflow and sensor alarms show in this mode alone */
+#define AIR_BOX_MODE_COOL_DOWN 2            /* no minimum flow; cooling up to the maximum */
 #define AIR_BOX_MODE_SETUP 3                /* the same */
-#define AIR_BOX_MODE_WARM_UP 4              /* no flow */
-#define AIR_BOX_MODE_SETBACK 5              /* the same, and so on */
+#define AIR_BOX_MODE_WARM_UP 4              /* the airflow setpoint is 0 */
+#define AIR_BOX_MODE_SETBACK 5              /* the same, as are the next two */
 #define AIR_BOX_MODE_FREEZE_PROTECTION 6
 #define AIR_BOX_MODE_UNOCCUPIED 7
 
@@ -103,16 +121,16 @@ extern "C" {
 #define AIR_BOX_WINDOWS_OPEN false          /* the outdoor airflows and the minimum flow are 0 */
 
 /* The readings and settings of a tick. Temperatures in kelvin from 150.0 to 450.0, CO2 in parts per million from 0.0 to 10000.0, airflow in cubic
-   metres a second from -10.0 to 10.0; what lies outside is refused. Flags, the mode and the override indices may be anything and are never refused. */
+   metres a second from -10.0 to 10.0; what lies outside is refused. The mode and the override indices may be any numbers; no value of theirs is refused. */
 typedef struct AirBoxInput {
     double zone_temperature;
     double cooling_setpoint;          /* above it the zone is cooled */
     double heating_setpoint;          /* below it the zone is too cold; this box cannot heat it */
     bool window_status;               /* true: windows closed */
-    bool occupancy_status;            /* true: there are people in the zone */
+    bool occupancy_status;            /* true: people in the zone; false makes the outdoor airflows and the minimum flow 0, as open windows do */
     int64_t operating_mode;           /* AIR_BOX_MODE_.. */
-    double co2_setpoint;
-    double co2_concentration;
+    double co2_setpoint;              /* from 200 below it up to it the minimum flow rises from the design minimum to the cooling maximum */
+    double co2_concentration;         /* where there is no sensor: a value 200 or more below the setpoint */
     double discharge_air_temperature; /* of the air that leaves the box */
     double supply_air_temperature;    /* of the air that comes to it */
     double discharge_airflow;         /* as measured; a sensor may read below 0 */
@@ -184,7 +202,7 @@ AIR_BOX_ASSERT(offsetof(AirBoxOutput, leaking_damper_alarm) == 72);
 
 /* ---- The inside of a box: what it remembers from tick to tick. Callers need none of it. */
 
-/* A time, or none. Where `present` is false, `time` has no meaning, but it must have been written. */
+/* A time, or none: where `present` is false, `time` has no meaning. */
 typedef struct AirBoxOptionalTime {
     bool present;
     double time;

@@ -18,12 +18,12 @@ static void one_tick(void) { air_box_tick(&box, &tick, &output); }
 /* The bytes that a call of `run` leaves written on a stack of its own. */
 static size_t written_by(void (*run)(void)) {
     memset(stack, PAINT, ROOM);
-    getcontext(&there);
+    if (getcontext(&there) != 0) exit(2);
     there.uc_stack.ss_sp = stack;
     there.uc_stack.ss_size = ROOM;
     there.uc_link = &here;
     makecontext(&there, run, 0);
-    swapcontext(&here, &there);
+    if (swapcontext(&here, &there) != 0) exit(2);
     size_t unwritten = 0;
     while (unwritten < ROOM && stack[unwritten] == PAINT) unwritten++;
     return ROOM - unwritten;
@@ -31,6 +31,7 @@ static size_t written_by(void (*run)(void)) {
 
 int main(int count, char **arguments) {
     size_t least = written_by(nothing), most = least;
+    box = air_box_fresh(false);
     TickLine line;
     while ((line = next_tick(&box, &tick)) == A_TICK || line == MALFORMED) {
         size_t written = line == A_TICK ? written_by(one_tick) : 0;

@@ -1,7 +1,8 @@
 /* Loaded before the C library, makes standard input and output fail as FAULTS says, a word and a number:
-   "interrupted 0"    every second read and write is interrupted or would block, the others move at most 1,000 bytes
-   "read N", "write N" the first N bytes are read or written, and from there on every call fails with EIO
-   "close 0"          the close of standard output fails with EIO */
+   interrupted 0     every second read and write is interrupted or would block, the others move at most 1,000 bytes
+   read N, write N   the first N bytes are read or written, and from there on every call fails with EIO
+   zero N            the first N bytes are written, and from there on no write takes a byte, or fails
+   close 0           the close of standard output fails with EIO */
 #define _GNU_SOURCE
 #include <dlfcn.h>
 #include <errno.h>
@@ -36,28 +37,30 @@ static size_t allowed(const char *word, size_t n, size_t done) {
     return n < number - done ? n : number - done;
 }
 
+/* The bytes moved so far, and what the call answers. */
+static ssize_t counted(ssize_t moved, size_t *done) {
+    if (moved > 0) *done += (size_t)moved;
+    return moved;
+}
+
 ssize_t read(int fd, void *at, size_t n) {
     static size_t done;
     Reads *real;
     *(void **)&real = dlsym(RTLD_NEXT, "read");
-    if (fd != 0) return real(fd, at, n);
+    if (fd != 0 || n == 0) return real(fd, at, n);
     size_t most = allowed("read", n, done);
-    if (most == 0 && n > 0) return -1;
-    ssize_t got = real(fd, at, most);
-    if (got > 0) done += (size_t)got;
-    return got;
+    return most == 0 ? -1 : counted(real(fd, at, most), &done);
 }
 
 ssize_t write(int fd, const void *at, size_t n) {
     static size_t done;
+    size_t number;
     Writes *real;
     *(void **)&real = dlsym(RTLD_NEXT, "write");
-    if (fd != 1) return real(fd, at, n);
-    size_t most = allowed("write", n, done);
-    if (most == 0 && n > 0) return -1;
-    ssize_t put = real(fd, at, most);
-    if (put > 0) done += (size_t)put;
-    return put;
+    if (fd != 1 || n == 0) return real(fd, at, n);
+    bool zero = told("zero", &number);
+    size_t most = allowed(zero ? "zero" : "write", n, done);
+    return most == 0 ? (zero ? 0 : -1) : counted(real(fd, at, most), &done);
 }
 
 int close(int fd) {

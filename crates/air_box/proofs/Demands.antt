@@ -60,7 +60,7 @@ by-number TemperatureOutOfRange = refl
 by-number Co2OutOfRange = refl
 by-number AirflowOutOfRange = refl
 
-above-zero : (reason : Refusal) → 0 < refusal-number reason
+pub above-zero : (reason : Refusal) → 0 < refusal-number reason
 above-zero NotWholeSeconds = lit< tt
 above-zero TimeOutOfRange = lit< tt
 above-zero BeforeLast = lit< tt

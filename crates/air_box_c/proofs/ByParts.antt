@@ -1,7 +1,9 @@
 -- The stages of `Stages.antt`, one after the other, are the tick of the box. Assumes nothing.
 use mathlib.Core.Path.{_≡_, refl}
 use mathlib.Core.Bool.{Bool, true, false, not}
-use lib.Dec.{T, eqb}
+use Prim.Native.Nat.{ℕ, _<_}
+use native.Mathlib.Omega.{arith}
+use lib.Dec.{T, eqb, eqb→eq}
 use Rattle.cooling_only_controller.specs.Controller.{controller-output}
 use Rattle.air_box.specs.AirBox.{tick, questions, decided, accepted-tick, refusal-number, delay-on-init}
 use Rattle.cooling_only_controller.specs.declared.ControllerOutput.{ControllerOutput}
@@ -10,7 +12,7 @@ use Rattle.air_box.specs.declared.Answer.the-variants.{Accepted}
 use Rattle.air_box.specs.declared.Verdict.{Verdict}
 use Rattle.air_box.specs.declared.Verdict.the-variants.{Accept, Refuse}
 use Rattle.air_box.specs.declared.Refusal.{Refusal}
-use Rattle.air_box.specs.declared.Refusal.the-variants.{NotWholeSeconds, TimeOutOfRange, BeforeLast, TooLongAfterLast, TemperatureOutOfRange, Co2OutOfRange, AirflowOutOfRange}
+use Rattle.air_box.proofs.Demands.{above-zero}
 use Rattle.air_box_c.specs.Records.{open-time, open-box, shut-box, start-of, verdict-number, Ticked}
 use Rattle.air_box_c.specs.Stages.{questioned, suppression-tick, airflow-tick, requests-tick, alarms-tick, last-tick}
 use Rattle.air_box_c.specs.declared.AirBoxC.{AirBoxC}
@@ -58,14 +60,11 @@ pub ticks : (c : AirBoxC) (k : Tick) (v : Verdict) → questions (open-time (c .
 unfolding tick open-box
 ticks c k v e = rw e
 
-pub not-zero : (r : Refusal) → T (eqb (refusal-number r) 0) → ⊥
-not-zero NotWholeSeconds z = z
-not-zero TimeOutOfRange z = z
-not-zero BeforeLast z = z
-not-zero TooLongAfterLast z = z
-not-zero TemperatureOutOfRange z = z
-not-zero Co2OutOfRange z = z
-not-zero AirflowOutOfRange z = z
+pub not-zero : (reason : Refusal) → T (eqb (refusal-number reason) 0) → ⊥
+not-zero reason z = none (refusal-number reason) (above-zero reason) (eqb→eq (refusal-number reason) 0 z)
+  where
+    none : (n : ℕ) → 0 < n → n ≡ 0 → ⊥
+    none n p e = omega arith
 
 accepted-by : (c : AirBoxC) (k : Tick) (w : ControllerOutput) (v : Verdict) → questions (open-time (c .last .time)) k ≡ v → T (eqb (verdict-number v) 0) → Ticked c k w (shut-box (accepted-tick (open-box c) k .state)) (lasted c k .output) (verdict-number v)
 accepted-by c k w Accept e none = record { next-box = rw (ticks c k Accept e, open-shut); next-output = rw (ticks c k Accept e, told-is c k); number-told = rw (ticks c k Accept e, told-is c k); every-field = rw e }

@@ -270,7 +270,7 @@ shut-state s last-part = record {
 }
 
 unfoldable pub shut-box : AirBox → AirBoxC
-shut-box s = shut-state (s .state) (record { time = shut-time (s .«last_time»); quiet = delay-on-init (s .start) })
+shut-box box = shut-state (box .state) (record { time = shut-time (box .«last_time»); quiet = delay-on-init (box .start) })
 
 -- what the questions decide, as a number
 abbrev pub verdict-number : Verdict → ℕ
@@ -293,11 +293,16 @@ abbrev pub OpenShut : Type 0
 OpenShut = (s : AirBox) → open-box (shut-box s) ≡ s
 
 -- the record `after` stands for the box that the tick gives from the box of `before`; the number and the output after it are those of its answer. A refused tick leaves both records as they were, and an accepted one settles every field, a NaN as being one
-pub record Ticked (before : AirBoxC) (k : Tick) (shown : ControllerOutput) (after : AirBoxC) (output : ControllerOutput) (number : ℕ) : Type 0 where
+pub record Ticked (before : AirBoxC) (k : Tick) (old-output : ControllerOutput) (after : AirBoxC) (output : ControllerOutput) (number : ℕ) : Type 0 where
   pub next-box : open-box after ≡ tick (open-box before) k .state
-  pub next-output : output ≡ answer-output (tick (open-box before) k .answer) shown
+  pub next-output : output ≡ answer-output (tick (open-box before) k .answer) old-output
   pub number-told : number ≡ answer-number (tick (open-box before) k .answer)
   pub every-field : after ≡ decided-record (questions (open-time (before .last .time)) k) before k
+
+-- that leaves no freedom: two outcomes of the same tick are the same
+abbrev pub OneOutcome : Type 0
+OneOutcome = (before : AirBoxC) (k : Tick) (old-output : ControllerOutput) (after after′ : AirBoxC) (output output′ : ControllerOutput) (number number′ : ℕ)
+    → Ticked before k old-output after output number → Ticked before k old-output after′ output′ number′ → (after ≡ after′) × (output ≡ output′) × (number ≡ number′)
 
 -- the record r stands for a box that has had no tick; every field of it is settled
 pub record Fresh (quiet : Bool) (r : AirBoxC) : Type 0 where

@@ -44,10 +44,12 @@ fn number(step: AirBoxStep) -> u64 {
 }
 
 fn print(label: &[u8], n: u64) {
-    io::write_all(STDOUT_FILENO, label);
-    io::write_all(STDOUT_FILENO, b" ");
-    io::print_decimal(STDOUT_FILENO, n);
-    io::write_all(STDOUT_FILENO, b"\n");
+    if !(io::write_all(STDOUT_FILENO, label)
+        && io::write_all(STDOUT_FILENO, b" ")
+        && io::print_decimal(STDOUT_FILENO, n)
+        && io::write_all(STDOUT_FILENO, b"\n")) {
+        os::fail(b"bench: cannot write");
+    }
 }
 
 fn flag(b: bool) -> u64 {

@@ -5,20 +5,30 @@
 //! ```
 //! use air_box::{AirBox, Input, Output, Refusal, Tick};
 //!
-//! /// What firmware does with a tick: the last accepted outputs stand until there are new ones.
-//! fn run(air_box: &mut AirBox, tick: &Tick, output: &mut Option<Output>) -> Result<(), Refusal> {
-//!     let mut answer = air_box.tick(tick);
-//!     if answer == Err(Refusal::TooLongAfterLast) {
-//!         // The box has lost its time: built afresh, it takes this tick as its first.
-//!         *air_box = AirBox::quiet();
-//!         answer = air_box.tick(tick);
-//!     }
-//!     *output = Some(answer?);
-//!     Ok(())
+//! /// What firmware keeps of a box: the last accepted outputs stand until there are new ones.
+//! struct Unit {
+//!     air_box: AirBox,
+//!     output: Option<Output>,
+//!     lost: u32,
 //! }
 //!
-//! let mut air_box = AirBox::quiet();
-//! let mut output = None;
+//! impl Unit {
+//!     fn run(&mut self, tick: &Tick) -> Result<(), Refusal> {
+//!         let mut answer = self.air_box.tick(tick);
+//!         let lost = matches!(answer, Err(Refusal::BeforeLast | Refusal::TooLongAfterLast));
+//!         self.lost = if lost { self.lost + 1 } else { 0 };
+//!         if self.lost == 3 {
+//!             // Box and clock have lost each other: built afresh, the box takes this tick as its first.
+//!             self.lost = 0;
+//!             self.air_box = AirBox::quiet();
+//!             answer = self.air_box.tick(tick);
+//!         }
+//!         self.output = Some(answer?);
+//!         Ok(())
+//!     }
+//! }
+//!
+//! let mut unit = Unit { air_box: AirBox::quiet(), output: None, lost: 0 };
 //! let mut tick = Tick {
 //!     t: 0.0,
 //!     input: Input {
@@ -38,29 +48,32 @@
 //!         supply_fan_status: true,
 //!     },
 //! };
-//! assert_eq!(run(&mut air_box, &tick, &mut output), Ok(()));
+//! assert_eq!(unit.run(&tick), Ok(()));
 //! tick.t = 60.0;
 //! tick.input.zone_temperature = f64::NAN;
-//! assert_eq!(run(&mut air_box, &tick, &mut output), Err(Refusal::TemperatureOutOfRange));
-//! assert_eq!(output.expect("accepted before").desk_code(), 0);
+//! assert_eq!(unit.run(&tick), Err(Refusal::TemperatureOutOfRange));
+//! assert_eq!(unit.output.expect("accepted before").desk_code(), 0);
 //! ```
 //!
 //! # Time
 //!
-//! `t` is in whole seconds from any start that the caller chooses, from 0 to 2,147,483,648. It may stand still and never goes back. Between two
-//! accepted ticks it moves by at most 240 seconds.
+//! `t` is in whole seconds from any start that the caller chooses, from 0 to 2,147,483,648. It never goes back, and may stand still. Between two
+//! accepted ticks it moves by at most 240; a tick a minute is what the controller is made for. Seconds counted from the box's own first tick are best: where
+//! the first accepted `t` is no multiple of 120, temperature requests 2 and 3 may be kept back for up to half an hour.
 //!
 //! # Refusals
 //!
-//! A refused tick changes nothing. After bad readings for more than 240 seconds every tick is refused with [`Refusal::TooLongAfterLast`], however good it
-//! is, until the box is built afresh: a loop that only goes on leaves the box dead for the night. The fresh box takes the first good tick, whenever
-//! that comes, and has forgotten what the old one remembered.
+//! A refused tick changes nothing. After bad readings for more than 240 seconds a clock that goes on gets [`Refusal::TooLongAfterLast`] for every tick,
+//! however good it is, until the box is built afresh: a loop that only goes on leaves the box dead for the night. A clock that was set back gets
+//! [`Refusal::BeforeLast`] until it has caught up. The lines above are the way out of both; they wait for three such refusals in a row, since a box that is
+//! built at one false time far ahead would refuse the right times that follow. A fresh box has forgotten all: its alarms show 0 until they have waited
+//! out their delays again.
 //!
 //! # Plain or quiet
 //!
-//! A real box takes the quiet start: every request and alarm then waits out its delay before it shows. With a plain start a fault that seems to stand at
-//! the first tick counts as having stood for long, so boxes whose dampers are still closed at power-up all show code 12 at once. It is the start of the
-//! published reference, for comparing with it.
+//! A real box takes the quiet start: every alarm, and every request above 1, then waits out its delay before it shows. With a plain start a fault that
+//! seems to stand at the first tick counts as having stood for long, so boxes that power up occupied, with the fan on and their dampers still closed, all
+//! show code 12 at once. It is the start of the published reference, for comparing with it.
 //!
 //! # What it needs
 //!
@@ -84,11 +97,11 @@ pub struct Input {
     pub heating_setpoint: f64,
     /// True: windows closed, the normal state. False: open, which makes the outdoor airflows and the minimum flow 0.
     pub window_status: bool,
-    /// True: there are people in the zone.
+    /// True: there are people in the zone. False makes the outdoor airflows and the minimum flow 0, as open windows do.
     pub occupancy_status: bool,
-    /// 1 occupied, 2 cool-down, 3 setup; 4 warm-up, 5 setback, 6 freeze protection, 7 unoccupied and any other number are treated alike.
+    /// 1 occupied, 2 cool-down, 3 setup. 4 warm-up, 5 setback, 6 freeze protection, 7 unoccupied and any number outside of 1 to 7 are treated alike.
     pub operating_mode: i64,
-    /// Parts per million, from 0.0 to 10000.0, as is the concentration.
+    /// Parts per million, from 0.0 to 10000.0, as is the concentration. From 200 below it up to it the minimum flow rises to the cooling maximum.
     pub co2_setpoint: f64,
     pub co2_concentration: f64,
     /// Of the air that leaves the box.
@@ -156,7 +169,7 @@ pub enum Refusal {
     TimeOutOfRange = 2,
     /// `t` is before that of the last accepted tick.
     BeforeLast = 3,
-    /// `t` is more than 240 after that of the last accepted tick. Every later tick is refused so: the box has to be built afresh.
+    /// `t` is more than 240 after that of the last accepted tick. A clock that goes on is refused so until the box is built afresh.
     TooLongAfterLast = 4,
     /// One of the five temperatures is not from 150.0 to 450.0.
     TemperatureOutOfRange = 5,
