@@ -36,9 +36,9 @@
 
    Plain or quiet. A real box takes the quiet start. With a plain start a fault that seems to stand at the first tick counts as having stood for long:
    sixteen healthy boxes that power up in occupied mode with the fan on and their dampers still closed all show code 12 at once. With a quiet start
-   every alarm, and every request above 1, waits out its delay first, and only real faults show. The price: low airflow is armed when the fan has been on
-   for 30 minutes, which after any fan start holds for both starts, but with a quiet one after power-up too; so that alarm shows after 35 minutes
-   at the earliest. The plain start is that of the published reference, for comparing with it.
+   every alarm, and every request above 1, waits out its delay first, and only real faults show. The price: the low airflow alarm is armed once the fan
+   has been on for 30 minutes, and shows after 35 at the earliest. After a fan start that is so with both starts; with a quiet one it is so after
+   power-up too, though the fan may have been on for hours. The plain start is that of the published reference, for comparing with it.
 
    Size. Every box has a design minimum of 0.5 and a cooling maximum of 1.5 cubic metres a second. Neither can be set.
 
