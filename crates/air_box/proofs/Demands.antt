@@ -1,6 +1,6 @@
--- Demands 1 and 2, from the order in which `questions` asks. Assumes nothing.
+-- Demands 1 and 2, from the order in which `questions` asks. The laws of the questions (`questions-accept`, `questions-refuse`) and of a tick by its verdict (`tick-accepted`, `tick-refused`) serve the claims about nights too. Assumes nothing.
 use mathlib.Core.Path.{_≡_, refl, sym, ap, _∙_, subst}
-use mathlib.Core.Logic.{_↔_, inr}
+use mathlib.Core.Logic.{_↔_, _⊎_, inl, inr}
 use Prim.Native.Nat.{ℕ, _+_, _<_, _≤_}
 use native.Mathlib.Omega.{arith}
 use mathlib.Core.Bool.{Bool, true, false, not, cond}
@@ -8,13 +8,13 @@ use lib.Dec.{T, ltb, eqb, ltb→lt, nltb→le, lit<}
 use lib.Ieee.Bits.{is-true, is-false}
 use Rattle.cdl_recurrences.specs.declared.OptionalTime.{OptionalTime}
 use Rattle.cooling_only_controller.specs.declared.ControllerOutput.{ControllerOutput}
-use Rattle.air_box.specs.AirBox.{tick, questions, decided, accepted-tick, refusal-number, outputs-or-number}
-use Rattle.air_box.specs.Demand1.{yes, FirstNo, Demand1}
+use Rattle.air_box.specs.AirBox.{yes, questions, decided, accepted-tick, tick, given-for, refusal-number, outputs-or-number}
+use Rattle.air_box.specs.Demand1.{AllYes, FirstNo, Demand1}
 use Rattle.air_box.specs.Demand2.{controller-step-of, Demand2}
 use Rattle.air_box.specs.declared.Tick.{Tick}
 use Rattle.air_box.specs.declared.AirBox.{AirBox}
 use Rattle.air_box.specs.declared.AirBoxStep.{AirBoxStep}
-use Rattle.air_box.specs.declared.Answer.the-variants.{Accepted, Refused}
+use Rattle.air_box.specs.declared.Answer.the-variants.{Refused}
 use Rattle.air_box.specs.declared.Refusal.{Refusal}
 use Rattle.air_box.specs.declared.Refusal.the-variants.{NotWholeSeconds, TimeOutOfRange, BeforeLast, TooLongAfterLast, TemperatureOutOfRange, Co2OutOfRange, AirflowOutOfRange}
 use Rattle.air_box.specs.declared.Verdict.{Verdict}
@@ -131,47 +131,112 @@ module _ (b : Refusal → Bool) where
   all→accept : ((reason : Refusal) → T (b reason)) → verdict b ≡ Accept
   all→accept f = pass NotWholeSeconds _ (f NotWholeSeconds) ∙ pass TimeOutOfRange _ (f TimeOutOfRange) ∙ pass BeforeLast _ (f BeforeLast) ∙ pass TooLongAfterLast _ (f TooLongAfterLast) ∙ pass TemperatureOutOfRange _ (f TemperatureOutOfRange) ∙ pass Co2OutOfRange _ (f Co2OutOfRange) ∙ pass AirflowOutOfRange _ (f AirflowOutOfRange)
 
--- ---- the box
-refused-answer : (v : Verdict) (box : AirBox) (k : Tick) (reason : Refusal) → (decided v box k .answer ≡ Refused reason) ↔ (v ≡ Refuse reason)
-unfolding accepted-tick
-refused-answer Accept box k reason = (λ h. let z : _≡_ {A = ℕ} 0 1 = cc in absurd (omega arith), λ h. let z : _≡_ {A = ℕ} 0 1 = cc in absurd (omega arith))
-refused-answer (Refuse found) box k reason = (λ h. let e : found ≡ reason = cc in ap Refuse e, λ h. let e : found ≡ reason = cc in ap Refused e)
+  -- a verdict that is none of a refusal: this question gets a "yes", and the rest decides likewise
+  let-pass : (x : Refusal) (rest : Verdict) → cond (not (b x)) (Refuse x) rest ≡ Accept → T (b x) × (rest ≡ Accept)
+  let-pass x rest h = go (b x) refl h
+    where
+      go : (q : Bool) → b x ≡ q → cond (not q) (Refuse x) rest ≡ Accept → T (b x) × (rest ≡ Accept)
+      go true e h = (subst T (sym e) tt, h)
+      go false e h = let z : _≡_ {A = ℕ} 0 1 = cc in absurd (omega arith)
 
-refused-state : (v : Verdict) (box : AirBox) (k : Tick) (reason : Refusal) → v ≡ Refuse reason → decided v box k .state ≡ box
-refused-state Accept box k reason h = let z : _≡_ {A = ℕ} 0 1 = cc in absurd (omega arith)
-refused-state (Refuse found) box k reason h = refl
+  accept→all : verdict b ≡ Accept → (reason : Refusal) → T (b reason)
+  accept→all h reason =
+      let p1 = let-pass NotWholeSeconds _ h in
+      let p2 = let-pass TimeOutOfRange _ (p1 .1) in
+      let p3 = let-pass BeforeLast _ (p2 .1) in
+      let p4 = let-pass TooLongAfterLast _ (p3 .1) in
+      let p5 = let-pass TemperatureOutOfRange _ (p4 .1) in
+      let p6 = let-pass Co2OutOfRange _ (p5 .1) in
+      let p7 = let-pass AirflowOutOfRange _ (p6 .1) in
+      each reason (p1 .0) (p2 .0) (p3 .0) (p4 .0) (p5 .0) (p6 .0) (p7 .0)
+    where
+      each : (reason : Refusal) → T (b NotWholeSeconds) → T (b TimeOutOfRange) → T (b BeforeLast) → T (b TooLongAfterLast)
+          → T (b TemperatureOutOfRange) → T (b Co2OutOfRange) → T (b AirflowOutOfRange) → T (b reason)
+      each NotWholeSeconds y1 y2 y3 y4 y5 y6 y7 = y1
+      each TimeOutOfRange y1 y2 y3 y4 y5 y6 y7 = y2
+      each BeforeLast y1 y2 y3 y4 y5 y6 y7 = y3
+      each TooLongAfterLast y1 y2 y3 y4 y5 y6 y7 = y4
+      each TemperatureOutOfRange y1 y2 y3 y4 y5 y6 y7 = y5
+      each Co2OutOfRange y1 y2 y3 y4 y5 y6 y7 = y6
+      each AirflowOutOfRange y1 y2 y3 y4 y5 y6 y7 = y7
 
--- the seven answers that a tick gets from a box
-abbrev of-box : AirBox → Tick → Refusal → Bool
-of-box box k reason = yes reason (box .«last_time») k
+-- ---- the questions, asked of a tick after the last accepted time `last`
+pub questions-accept : (last : OptionalTime) (k : Tick) → (questions last k ≡ Accept) ↔ AllYes last k
+questions-accept last k =
+    let answers : Refusal → Bool = λ reason. yes reason last k in
+    (λ e. accept→all answers (sym (questions-are last k) ∙ e), λ all. questions-are last k ∙ all→accept answers all)
 
-verdict-is : (box : AirBox) (k : Tick) → tick box k ≡ decided (verdict (of-box box k)) box k
+pub questions-refuse : (last : OptionalTime) (k : Tick) (reason : Refusal) → (questions last k ≡ Refuse reason) ↔ FirstNo reason last k
+questions-refuse last k reason =
+    let answers : Refusal → Bool = λ reason. yes reason last k in (
+      λ e. let f = refused→first answers reason (sym (questions-are last k) ∙ e) in record { is-no = f .0; earlier-yes = f .1 },
+      λ f. questions-are last k ∙ first→refused answers reason (f .is-no, f .earlier-yes),
+    )
+
+-- ---- a tick, by what the questions decide
+pub tick-accepted : (box : AirBox) (k : Tick) → AllYes (box .«last_time») k → tick box k ≡ accepted-tick box k
 unfolding tick
-verdict-is box k = ap (λ (v : Verdict). decided v box k) (questions-are (box .«last_time») k)
+tick-accepted box k all = rw (questions-accept (box .«last_time») k .1 all)
 
-refused-verdict : (box : AirBox) (k : Tick) (reason : Refusal) → (tick box k .answer ≡ Refused reason) ↔ (verdict (of-box box k) ≡ Refuse reason)
-refused-verdict box k reason =
-    subst (λ (s : AirBoxStep). (s .answer ≡ Refused reason) ↔ (verdict (of-box box k) ≡ Refuse reason)) (sym (verdict-is box k)) (refused-answer (verdict (of-box box k)) box k reason)
+pub tick-refused : (box : AirBox) (k : Tick) (reason : Refusal) → FirstNo reason (box .«last_time») k
+    → tick box k ≡ record { state = box; answer = Refused reason }
+unfolding tick
+tick-refused box k reason first = rw (questions-refuse (box .«last_time») k reason .1 first)
+
+-- every tick is the one or the other
+pub by-verdict : {P : Type 0} (last : OptionalTime) (k : Tick) → (AllYes last k → P) → ((reason : Refusal) → FirstNo reason last k → P) → P
+by-verdict {P} last k yes-all no-first = go (questions last k) refl
+  where
+    go : (v : Verdict) → questions last k ≡ v → P
+    go Accept e = yes-all (questions-accept last k .0 e)
+    go (Refuse reason) e = no-first reason (questions-refuse last k reason .0 e)
+
+-- ---- what a tick gives
+gives-outputs : (box : AirBox) (k : Tick) → AllYes (box .«last_time») k → given-for box k ≡ inl (controller-step-of box k .output)
+unfolding accepted-tick
+gives-outputs box k all = ap (λ (s : AirBoxStep). outputs-or-number (s .answer)) (tick-accepted box k all)
+
+pub gives-number : (box : AirBox) (k : Tick) (reason : Refusal) → FirstNo reason (box .«last_time») k → given-for box k ≡ inr (refusal-number reason)
+gives-number box k reason first = ap (λ (s : AirBoxStep). outputs-or-number (s .answer)) (tick-refused box k reason first)
+
+-- outputs are no number
+apart : {P : Type 0} (given : ControllerOutput ⊎ ℕ) (output : ControllerOutput) (number : ℕ) → given ≡ inl output → given ≡ inr number → P
+apart given output number e f = let z : _≡_ {A = ℕ} 0 1 = cc in absurd (omega arith)
+
+same-number : (given : ControllerOutput ⊎ ℕ) (n m : ℕ) → given ≡ inr n → given ≡ inr m → n ≡ m
+same-number given n m e f = cc
+
+same-reason : (a c : Refusal) → refusal-number a ≡ refusal-number c → a ≡ c
+same-reason a c e = sym (by-number a) ∙ ap of-number e ∙ by-number c
+
+-- a tick that gives a number is refused for the reason of that number
+refused-for : (box : AirBox) (k : Tick) (number : ℕ) → given-for box k ≡ inr number
+    → (reason : Refusal) × (number ≡ refusal-number reason) × FirstNo reason (box .«last_time») k
+refused-for box k number g =
+    by-verdict (box .«last_time») k (λ all. apart (given-for box k) _ number (gives-outputs box k all) g)
+    (λ reason first. (reason, same-number (given-for box k) number (refusal-number reason) g (gives-number box k reason first), first))
+
+pub demand-1 : Demand1
+demand-1 = record {
+  number-of-the-first-no = λ box k reason. (
+    λ g. let r = refused-for box k (refusal-number reason) g in
+        subst (λ (x : Refusal). FirstNo x (box .«last_time») k) (sym (same-reason reason (r .0) (r .1))) (r .2),
+    gives-number box k reason,
+  );
+  no-other-number = λ box k number g. let r = refused-for box k number g in (r .0, r .1);
+  outputs-if-all-yes = λ box k. (
+    λ g. by-verdict (box .«last_time») k (λ all. all)
+        (λ reason first. apart (given-for box k) (g .0) (refusal-number reason) (g .1) (gives-number box k reason first)),
+    λ all. (controller-step-of box k .output, gives-outputs box k all),
+  );
+  refused-changes-nothing = λ box k number g. let r = refused-for box k number g in ap (λ (s : AirBoxStep). s .state) (tick-refused box k (r .0) (r .2));
+}
 
 pub demand-2 : Demand2
 unfolding accepted-tick
-demand-2 box k all = verdict-is box k ∙ ap (λ (v : Verdict). decided v box k) (all→accept (of-box box k) all)
-
-pub demand-1 : Demand1
-demand-1 = record { refused-for-the-first-no = first-no; gives-the-number = number; accepted-otherwise = accepted; refused-changes-nothing = unchanged }
-  where
-    first-no : (box : AirBox) (k : Tick) (reason : Refusal) → (tick box k .answer ≡ Refused reason) ↔ FirstNo reason (box .«last_time») k
-    first-no box k reason = (
-      λ h. let f = refused→first (of-box box k) reason (refused-verdict box k reason .0 h) in record { is-no = f .0; earlier-yes = f .1 },
-      λ f. refused-verdict box k reason .1 (first→refused (of-box box k) reason (f .is-no, f .earlier-yes)),
-    )
-
-    number : (box : AirBox) (k : Tick) (reason : Refusal) → FirstNo reason (box .«last_time») k → outputs-or-number (tick box k .answer) ≡ inr (refusal-number reason)
-    number box k reason f = ap outputs-or-number (first-no box k reason .1 f)
-
-    accepted : (box : AirBox) (k : Tick) → ((reason : Refusal) → T (yes reason (box .«last_time») k)) → (output : ControllerOutput) × (tick box k .answer ≡ Accepted output)
-    accepted box k all = (controller-step-of box k .output, ap (λ (s : AirBoxStep). s .answer) (demand-2 box k all))
-
-    unchanged : (box : AirBox) (k : Tick) (reason : Refusal) → tick box k .answer ≡ Refused reason → tick box k .state ≡ box
-    unchanged box k reason h =
-        ap (λ (s : AirBoxStep). s .state) (verdict-is box k) ∙ refused-state (verdict (of-box box k)) box k reason (refused-verdict box k reason .0 h)
+demand-2 box k all = record {
+  outputs = gives-outputs box k all;
+  next-state = ap (λ (s : AirBoxStep). s .state .state) (tick-accepted box k all);
+  last-time = ap (λ (s : AirBoxStep). s .state .«last_time») (tick-accepted box k all);
+  start-kept = ap (λ (s : AirBoxStep). s .state .start) (tick-accepted box k all);
+}

@@ -63,16 +63,27 @@ temperatures-within input =
     && within (input .«discharge_air_temperature») (decimal 150 1) (decimal 450 1)
     && within (input .«supply_air_temperature») (decimal 150 1) (decimal 450 1)
 
+-- Each of the seven questions under the reason that its "no" gives: whether the tick k gets a "yes", after the last accepted time `last`.
+abbrev pub yes : Refusal → OptionalTime → Tick → Bool
+yes NotWholeSeconds last k = is-whole (k .t)
+yes TimeOutOfRange last k = within (k .t) zero (decimal 2147483648 1)
+yes BeforeLast last k = at-or-after last (k .t)
+yes TooLongAfterLast last k = soon-after last (k .t)
+yes TemperatureOutOfRange last k = temperatures-within (k .input)
+yes Co2OutOfRange last k =
+    within (k .input .«co2_setpoint») zero (decimal 10000 1) && within (k .input .«co2_concentration») zero (decimal 10000 1)
+yes AirflowOutOfRange last k = within (k .input .«discharge_airflow») (neg (decimal 10 1)) (decimal 10 1)
+
 -- The seven questions in their order. The first "no" is the reason.
 unfoldable pub questions : OptionalTime → Tick → Verdict
-questions last-time k =
-    if not (is-whole (k .t)) then Refuse NotWholeSeconds
-    else if not (within (k .t) zero (decimal 2147483648 1)) then Refuse TimeOutOfRange
-    else if not (at-or-after last-time (k .t)) then Refuse BeforeLast
-    else if not (soon-after last-time (k .t)) then Refuse TooLongAfterLast
-    else if not (temperatures-within (k .input)) then Refuse TemperatureOutOfRange
-    else if not (within (k .input .«co2_setpoint») zero (decimal 10000 1) && within (k .input .«co2_concentration») zero (decimal 10000 1)) then Refuse Co2OutOfRange
-    else if not (within (k .input .«discharge_airflow») (neg (decimal 10 1)) (decimal 10 1)) then Refuse AirflowOutOfRange
+questions last k =
+    if not (yes NotWholeSeconds last k) then Refuse NotWholeSeconds
+    else if not (yes TimeOutOfRange last k) then Refuse TimeOutOfRange
+    else if not (yes BeforeLast last k) then Refuse BeforeLast
+    else if not (yes TooLongAfterLast last k) then Refuse TooLongAfterLast
+    else if not (yes TemperatureOutOfRange last k) then Refuse TemperatureOutOfRange
+    else if not (yes Co2OutOfRange last k) then Refuse Co2OutOfRange
+    else if not (yes AirflowOutOfRange last k) then Refuse AirflowOutOfRange
     else Accept
 
 -- ---- the box
@@ -101,6 +112,10 @@ decided (Refuse reason) box k = record { state = box; answer = Refused reason }
 
 unfoldable pub tick : AirBox → Tick → AirBoxStep
 tick box k = decided (questions (box .«last_time») k) box k
+
+-- what the box gives for the tick: the ten outputs, or the number
+abbrev pub given-for : AirBox → Tick → ControllerOutput ⊎ ℕ
+given-for box k = outputs-or-number (tick box k .answer)
 
 -- ---- document 01, 'Desk code'
 

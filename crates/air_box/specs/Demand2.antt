@@ -1,27 +1,30 @@
--- Demand 2. On every accepted tick, whatever the box holds, all ten outputs and each field of the next state are those of `controller-output`, by one equation for the whole answer.
--- `controller-output` follows the Rust's `ControllerState::output` stage by stage, with document 01's rules for the helpers. For a plain start that is what the Rust gives on accepted ticks; this is argued and run, not proved (docs/DIFFERENCES.md).
+-- Demand 2. On every accepted tick, whatever the box holds, all ten outputs and each field of the controller's next state are those of `controller-output`.
+-- `controller-output` follows the Rust's `ControllerState::output` line by line, with document 01's rules for the helpers. For a plain start that is what the Rust gives on accepted ticks; this is argued and run, not proved (docs/DIFFERENCES.md).
 -- The method `AirBox::tick` returns `tick` of the box and the tick, by its contract.
 use mathlib.Core.Path.{_≡_}
-use lib.Dec.{T}
+use mathlib.Core.Logic.{inl}
 use Rattle.cdl_recurrences.specs.declared.OptionalTime.the-variants.{At}
 use Rattle.cooling_only_controller.specs.Controller.{controller-output}
 use Rattle.cooling_only_controller.specs.declared.ControllerStep.{ControllerStep}
-use Rattle.air_box.specs.AirBox.{tick, delay-on-init}
-use Rattle.air_box.specs.Demand1.{yes}
+use Rattle.air_box.specs.AirBox.{delay-on-init, tick, given-for}
+use Rattle.air_box.specs.Demand1.{AllYes}
 use Rattle.air_box.specs.declared.Tick.{Tick}
 use Rattle.air_box.specs.declared.AirBox.{AirBox}
-use Rattle.air_box.specs.declared.Answer.the-variants.{Accepted}
-use Rattle.air_box.specs.declared.Refusal.{Refusal}
 
 -- the controller's step for this tick, from its state in the box; the start choice decides delay_on_init in the nine calls
 abbrev pub controller-step-of : AirBox → Tick → ControllerStep
 controller-step-of box k = controller-output (box .state) (k .t) (k .input) (delay-on-init (box .start))
 
+-- what an accepted tick does
+pub record Stepped (box : AirBox) (k : Tick) : Type 0 where
+  -- it gives the controller's ten outputs
+  pub outputs : given-for box k ≡ inl (controller-step-of box k .output)
+  -- the controller's state afterwards is the controller's next state
+  pub next-state : tick box k .state .state ≡ controller-step-of box k .state
+  -- its time is the last accepted one
+  pub last-time : tick box k .state .«last_time» ≡ At (k .t)
+  -- nothing else of the box changes
+  pub start-kept : tick box k .state .start ≡ box .start
+
 abbrev pub Demand2 : Type 0
-Demand2 =
-    (box : AirBox) (k : Tick) → ((reason : Refusal) → T (yes reason (box .«last_time») k))
-    → tick box k
-    ≡ record {
-      state = record { state = controller-step-of box k .state; «last_time» = At (k .t); start = box .start };
-      answer = Accepted (controller-step-of box k .output);
-    }
+Demand2 = (box : AirBox) (k : Tick) → AllYes (box .«last_time») k → Stepped box k

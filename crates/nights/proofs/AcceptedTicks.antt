@@ -1,26 +1,25 @@
--- What the questions ensure of accepted ticks: each time is a whole number of seconds, and none is before an older one. And how the accepted ticks of a night become a history. Assumes nothing.
-use mathlib.Core.Path.{_≡_, refl, sym, ap, _∙_, subst}
+-- What the questions ensure of accepted ticks: each time is a whole number of seconds, and none is before an older one. Histories of accepted ticks, the newest first. Assumes nothing.
+use mathlib.Core.Path.{_≡_, sym, ap, _∙_, subst}
 use mathlib.Core.List.{List, [], _∷_}
 use Prim.Native.Nat.{ℕ, _*_, _/_, _%_, _^_, _≤_}
 use native.Mathlib.Nat.{mul-one, div-add-mod', zero-lt-suc, zero-div}
 use native.Mathlib.Omega.{arith}
-use mathlib.Core.Bool.{Bool, true, false, not}
+use mathlib.Core.Bool.{Bool, true, false}
 use lib.IntN.{ℤ}
 use lib.Dec.{T, eqb, leb→le, eqb→eq}
 use lib.Ieee.{Float, nan, inf, fin, binary64, up, down, lt, eq, le}
 use lib.Ieee.Fits.{and-l, and-r}
-use Rattle.f64_helpers.specs.F64.{_≤ᶠ_, decimal, zero, if_then_else_}
+use Rattle.f64_helpers.specs.F64.{_≤ᶠ_, decimal, zero}
 use Rattle.f64_helpers.specs.Helpers.{is-whole}
 use Rattle.f64_helpers.specs.Seconds.{Whole, seconds, IsTime}
 use Rattle.f64_helpers.proofs.WholeSeconds.{round-to, le-whole}
 use Rattle.cdl_recurrences.specs.declared.OptionalTime.{OptionalTime}
-use Rattle.cdl_recurrences.specs.declared.OptionalTime.the-variants.{Absent, At}
-use Rattle.air_box.specs.AirBox.{questions, within, at-or-after}
+use Rattle.cdl_recurrences.specs.declared.OptionalTime.the-variants.{At}
+use Rattle.air_box.specs.AirBox.{within}
+use Rattle.air_box.specs.Demand1.{AllYes}
 use Rattle.air_box.specs.declared.Tick.{Tick}
-use Rattle.air_box.specs.declared.Refusal.{Refusal}
-use Rattle.air_box.specs.declared.Verdict.{Verdict}
-use Rattle.air_box.specs.declared.Verdict.the-variants.{Refuse}
-use Rattle.nights.specs.Nights.{passes, accepts, accepted-ticks}
+use Rattle.air_box.specs.declared.Refusal.the-variants.{NotWholeSeconds, TimeOutOfRange, BeforeLast}
+use Rattle.nights.proofs.Histories.{newest-time}
 
 -- ---- a time that questions 1 and 2 let pass
 pub decimal-whole : (n : ℕ) → n ≤ 2 ^ 53 → Whole (decimal n 1) n
@@ -51,44 +50,14 @@ is-time t p q =
     let w = whole-if-is-whole t p (and-l (zero ≤ᶠ t) (t ≤ᶠ decimal 2147483648 1) q) in
     (w, at-most-whole t (decimal 2147483648 1) (seconds t) 2147483648 w (decimal-whole 2147483648 (omega arith)) (and-r (zero ≤ᶠ t) (t ≤ᶠ decimal 2147483648 1) q))
 
--- ---- the first three questions, asked of an accepted tick
-three-passed : (a b c : Bool) (q r s : Refusal) (rest : Verdict) → T (passes (if not a then Refuse q else if not b then Refuse r else if not c then Refuse s else rest)) → T a × T b × T c
-three-passed true true true q r s rest p = (tt, tt, tt)
-three-passed true true false q r s rest p = absurd p
-three-passed true false c q r s rest p = absurd p
-three-passed false b c q r s rest p = absurd p
+-- ---- accepted ticks
+pub accepted-time : (last : OptionalTime) (k : Tick) → AllYes last k → IsTime (k .t)
+accepted-time last k all = is-time (k .t) (all NotWholeSeconds) (all TimeOutOfRange)
 
-questions-passed : (last : OptionalTime) (k : Tick) → T (accepts last k) → T (is-whole (k .t)) × T (within (k .t) zero (decimal 2147483648 1)) × T (at-or-after last (k .t))
-unfolding questions
-questions-passed last k p = three-passed (is-whole (k .t)) (within (k .t) zero (decimal 2147483648 1)) (at-or-after last (k .t)) _ _ _ _ p
-
-pub accepted-time : (last : OptionalTime) (k : Tick) → T (accepts last k) → IsTime (k .t)
-accepted-time last k p = let q = questions-passed last k p in is-time (k .t) (q .0) (q .1)
-
-pub accepted-not-before : (j k : Tick) → IsTime (j .t) → T (accepts (At (j .t)) k) → seconds (j .t) ≤ seconds (k .t)
-accepted-not-before j k v p = at-most-whole (j .t) (k .t) (seconds (j .t)) (seconds (k .t)) (v .0) (accepted-time (At (j .t)) k p .0) (questions-passed (At (j .t)) k p .2)
-
--- ---- histories of accepted ticks
-abbrev pub newest-time : List Tick → OptionalTime
-newest-time [] = Absent
-newest-time (k ∷ h) = At (k .t)
+pub accepted-not-before : (j k : Tick) → IsTime (j .t) → AllYes (At (j .t)) k → seconds (j .t) ≤ seconds (k .t)
+accepted-not-before j k v all = at-most-whole (j .t) (k .t) (seconds (j .t)) (seconds (k .t)) (v .0) (accepted-time (At (j .t)) k all .0) (all BeforeLast)
 
 -- each tick of the history was accepted after the older ones
 abbrev pub AllAccepted : List Tick → Type 0
 AllAccepted [] = Unit
-AllAccepted (k ∷ h) = T (accepts (newest-time h) k) × AllAccepted h
-
--- each of the ticks ks is accepted after the one before it, and the first after `last`
-abbrev pub AcceptedInTurn : OptionalTime → List Tick → Type 0
-AcceptedInTurn last [] = Unit
-AcceptedInTurn last (k ∷ ks) = T (accepts last k) × AcceptedInTurn (At (k .t)) ks
-
--- a test passes or fails
-pub by-test : {P : Type 0} (b : Bool) → (b ≡ true → P) → (b ≡ false → P) → P
-by-test true f g = f refl
-by-test false f g = g refl
-
-pub accepted-in-turn : (last : OptionalTime) (ks : List Tick) → AcceptedInTurn last (accepted-ticks last ks)
-accepted-in-turn last [] = tt
-accepted-in-turn last (k ∷ ks) =
-    by-test (accepts last k) (λ e. rw e (rw e tt, accepted-in-turn (At (k .t)) ks)) (λ e. rw e (accepted-in-turn last ks))
+AllAccepted (k ∷ h) = AllYes (newest-time h) k × AllAccepted h

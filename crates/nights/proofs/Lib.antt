@@ -1,7 +1,9 @@
 pub mod Histories
 pub mod AcceptedTicks
-pub mod SensorAlarm
+pub mod Grown
 pub mod FlowHighRule
+pub mod Conditions
+pub mod SensorAlarm
 pub mod EveryNight
 pub mod TwoNights
 pub mod Demand3

@@ -1,58 +1,56 @@
 -- Demand 3: the claim about whole nights, on a box freshly built with a plain start.
+-- A night is any list of ticks, and each of its ticks stands beside what the box gave for it: outputs, if it was accepted, or a number.
 use mathlib.Core.Path.{_≡_}
-use mathlib.Core.Logic.{_↔_, _⊎_}
+use mathlib.Core.Logic.{_↔_, _⊎_, inl, inr}
 use mathlib.Core.List.{List, [], _∷_, _++_}
-use Prim.Native.Nat.{_+_, _≤_}
-use mathlib.Core.Bool.{false}
+use Prim.Native.Nat.{ℕ}
+use mathlib.Core.Bool.{false, not}
 use lib.IntN.{ℤ, pos}
 use lib.Dec.{T}
-use lib.Ieee.{eq}
-use Rattle.f64_helpers.specs.F64.{_≤ᶠ_}
-use Rattle.f64_helpers.specs.Seconds.{seconds}
+use lib.Ieee.{Float, eq}
+use Rattle.f64_helpers.specs.F64.{_⊗_, _≤ᶠ_, decimal}
 use Rattle.cdl_recurrences.specs.DeadBand.{Related}
-use Rattle.cdl_recurrences.specs.declared.OptionalTime.the-variants.{Absent}
-use Rattle.air_box.specs.AirBox.{fresh-box}
+use Rattle.cooling_only_controller.specs.declared.ControllerOutput.{ControllerOutput}
+use Rattle.air_box.specs.AirBox.{refusal-number, delay-on-init}
+use Rattle.air_box.specs.Demand1.{AllYes, FirstNo}
 use Rattle.air_box.specs.declared.Tick.{Tick}
+use Rattle.air_box.specs.declared.Refusal.{Refusal}
+use Rattle.air_box.specs.declared.Start.{Start}
 use Rattle.air_box.specs.declared.Start.the-variants.{Plain}
-use Rattle.nights.specs.Nights.{accepted-ticks, answers, sensor-alarms, flow, fan, mode, FlowHigh, flow-high-stepped, HighFanOff}
+use Rattle.nights.specs.Nights.{NightStep, night-of, Along, last-time, Shown, shown, flow, fan, mode, FlowHigh, flow-high-stepped, HeldFor}
 
 -- ---- the flow-high rule
 
+-- H, as an f64 operation
+abbrev pub H : Float
+H = decimal 1 10 ⊗ decimal 15 10
+
 -- The rule over a history agrees with what `greater_hysteretic` does step by step, from a fresh memory.
 abbrev pub FlowHighRule : Type 0
-FlowHighRule = (ks : List Tick) → T (flow-high-stepped false ks) ↔ FlowHigh ks
+FlowHighRule = (ks : List Tick) → T (flow-high-stepped H false ks) ↔ FlowHigh H ks
 
 -- ---- every night, exactly
 
--- Of the accepted ticks, the last of which is k: flow has been high with the fan off at every one from `start` up to k, and `start` is at least 600 seconds back, or the very first.
--- Accepted times are whole numbers of seconds, so `seconds` of one is the time itself.
-pub record HighFanOffFor600 (accepted : List Tick) (k : Tick) : Type 0 where
-  pub earlier : List Tick
-  pub start : Tick
-  pub since : List Tick
-  pub parts : accepted ≡ earlier ++ (start ∷ since)
-  pub all : HighFanOff earlier (start ∷ since)
-  pub long : (seconds (start .t) + 600 ≤ seconds (k .t)) ⊎ (earlier ≡ [])
+-- At the accepted tick k, before which those of `earlier` were accepted: flow is high with the fan off.
+abbrev pub HighFanOff : List Tick → Tick → Type 0
+HighFanOff earlier k = FlowHigh H (earlier ++ (k ∷ [])) × T (not (fan k))
 
--- The alarm at k is 3 exactly if the mode there is 1 and flow has been high with the fan off for long enough; else it is 0.
-pub record ExactAt (accepted : List Tick) (k : Tick) (alarm : ℤ) : Type 0 where
-  pub three : (alarm ≡ pos 3) ↔ ((mode k ≡ pos 1) × HighFanOffFor600 accepted k)
+-- The alarm at k is 3 exactly if the mode there is 1 and flow has been high with the fan off at every accepted tick
+-- from one at least 600 seconds back, or, in a plain start, from the very first, up to k. Else it is 0.
+pub record ExactAlarm (start : Start) (earlier : List Tick) (k : Tick) (alarm : ℤ) : Type 0 where
+  pub three : (alarm ≡ pos 3) ↔ ((mode k ≡ pos 1) × HeldFor HighFanOff 600 (delay-on-init start) (earlier ++ (k ∷ [])) k)
   pub else-none : (alarm ≡ pos 3) ⊎ (alarm ≡ pos 0)
 
--- There is one alarm for each of the accepted ticks ks, which come after the accepted ticks `earlier`, and each is exact.
-abbrev pub ExactAlong : List Tick → List Tick → List ℤ → Type 0
-ExactAlong earlier [] [] = Unit
-ExactAlong earlier [] (alarm ∷ rest) = ⊥
-ExactAlong earlier (k ∷ ks) [] = ⊥
-ExactAlong earlier (k ∷ ks) (alarm ∷ rest) = ExactAt (earlier ++ (k ∷ [])) k alarm × ExactAlong (earlier ++ (k ∷ [])) ks rest
+-- What is given for the tick k is right. Outputs are given if no question gets a "no" after the last accepted time, and their alarm is exact.
+-- A number is that of the first "no".
+abbrev pub ExactGiven : Start → List Tick → Tick → ControllerOutput ⊎ ℕ → Type 0
+ExactGiven start earlier k (inl output) = AllYes (last-time earlier) k × ExactAlarm start earlier k (output .«airflow_sensor_alarm»)
+ExactGiven start earlier k (inr number) = (reason : Refusal) × FirstNo reason (last-time earlier) k × (number ≡ refusal-number reason)
 
--- the airflow sensor alarms that a fresh box with a plain start shows along a night
-abbrev pub alarms-of : List Tick → List ℤ
-alarms-of night = sensor-alarms (answers (fresh-box Plain) night)
-
--- At every accepted tick of every night the alarm is exact.
-abbrev pub EveryNightExactly : Type 0
-EveryNightExactly = (night : List Tick) → ExactAlong [] (accepted-ticks Absent night) (alarms-of night)
+-- At every tick of every night what is given is right.
+abbrev pub EveryNightExactly : Start → Type 0
+EveryNightExactly start =
+    (night : List Tick) → Along (λ (earlier : List Tick) (s : NightStep). ExactGiven start earlier (s .tick) (s .given)) [] (night-of start night)
 
 -- ---- two nights
 
@@ -63,14 +61,20 @@ pub record NoWeaker (j k : Tick) : Type 0 where
   pub flows : T (flow j ≤ᶠ flow k)
   pub fans : T (fan k) → T (fan j)
 
+-- where the first shows alarm 3, the second does
+abbrev pub ThreeIfThree : ControllerOutput → ControllerOutput → Type 0
+ThreeIfThree a b = a .«airflow_sensor_alarm» ≡ pos 3 → b .«airflow_sensor_alarm» ≡ pos 3
+
 -- For every two nights whose accepted ticks are equally many and so related, first with first: the second shows alarm 3 wherever the first does.
-abbrev pub TwoNights : Type 0
-TwoNights =
-    (first second : List Tick) → Related NoWeaker (accepted-ticks Absent first) (accepted-ticks Absent second)
-    → Related (λ (a b : ℤ). a ≡ pos 3 → b ≡ pos 3) (alarms-of first) (alarms-of second)
+-- Refused ticks may differ in number and place.
+abbrev pub TwoNights : Start → Type 0
+TwoNights start =
+    (first second : List Tick)
+    → Related (λ (a b : Shown). NoWeaker (a .tick) (b .tick)) (shown (night-of start first)) (shown (night-of start second))
+    → Related (λ (a b : Shown). ThreeIfThree (a .output) (b .output)) (shown (night-of start first)) (shown (night-of start second))
 
 -- ---- demand 3
 pub record Demand3 : Type 0 where
   pub flow-high-rule : FlowHighRule
-  pub every-night-exactly : EveryNightExactly
-  pub two-nights : TwoNights
+  pub every-night-exactly : EveryNightExactly Plain
+  pub two-nights : TwoNights Plain

@@ -1,49 +1,72 @@
--- Nights of ticks: which ticks of a list are accepted, what a box answers along the list, and the flow-high rule of document 01.
+-- Nights of ticks: what a box does along a list of ticks, what a tick carries, and rules over the ticks that were accepted.
 -- A night is a list of ticks in the order in which they come. Each is run by `tick`, which is what the method `AirBox::tick` is proved to return.
 use mathlib.Core.Path.{_≡_}
+use mathlib.Core.Logic.{_⊎_, inl, inr}
 use mathlib.Core.List.{List, [], _∷_, _++_}
-use mathlib.Core.Bool.{Bool, true, false, not}
+use Prim.Native.Nat.{ℕ, _+_, _≤_}
+use mathlib.Core.Bool.{Bool, not}
 use lib.IntN.{ℤ}
 use lib.Dec.{T}
 use lib.Ieee.{Float}
-use Rattle.f64_helpers.specs.F64.{_⊖_, _⊗_, _>ᶠ_, decimal, if_then_else_}
+use Rattle.f64_helpers.specs.F64.{_⊖_, _>ᶠ_, decimal}
+use Rattle.f64_helpers.specs.Seconds.{seconds}
 use Rattle.cdl_recurrences.specs.CdlRecurrences.{greater-hysteretic}
 use Rattle.cdl_recurrences.specs.declared.OptionalTime.{OptionalTime}
-use Rattle.cdl_recurrences.specs.declared.OptionalTime.the-variants.{At}
-use Rattle.air_box.specs.AirBox.{questions, tick}
+use Rattle.cdl_recurrences.specs.declared.OptionalTime.the-variants.{Absent, At}
+use Rattle.cooling_only_controller.specs.declared.ControllerOutput.{ControllerOutput}
+use Rattle.air_box.specs.AirBox.{fresh-box, tick, given-for}
 use Rattle.air_box.specs.declared.Tick.{Tick}
 use Rattle.air_box.specs.declared.AirBox.{AirBox}
-use Rattle.air_box.specs.declared.Answer.{Answer}
-use Rattle.air_box.specs.declared.Answer.the-variants.{Accepted, Refused}
-use Rattle.air_box.specs.declared.Verdict.{Verdict}
-use Rattle.air_box.specs.declared.Verdict.the-variants.{Accept, Refuse}
+use Rattle.air_box.specs.declared.Start.{Start}
 
--- ---- which ticks are accepted, said by the seven questions over the list itself
+-- ---- a night, run
 
--- none of the seven questions gets a "no", after the last accepted time `last`
-abbrev pub passes : Verdict → Bool
-passes Accept = true
-passes (Refuse reason) = false
+-- a tick of a night, what the box gave for it, and the box after it
+pub record NightStep : Type 0 where
+  pub tick : Tick
+  pub given : ControllerOutput ⊎ ℕ
+  pub box : AirBox
 
-abbrev pub accepts : OptionalTime → Tick → Bool
-accepts last k = passes (questions last k)
+-- Each tick gets the box that the one before it left.
+abbrev pub steps : AirBox → List Tick → List NightStep
+steps box [] = []
+steps box (k ∷ ks) = record { tick = k; given = given-for box k; box = tick box k .state } ∷ steps (tick box k .state) ks
 
--- The accepted ticks of a list that begins after the last accepted time `last`, in order. After an accepted tick the last accepted time is its own; a refused one counts for nothing.
-abbrev pub accepted-ticks : OptionalTime → List Tick → List Tick
-accepted-ticks last [] = []
-accepted-ticks last (k ∷ ks) = if accepts last k then k ∷ accepted-ticks (At (k .t)) ks else accepted-ticks last ks
+-- the night of a box that is freshly built
+abbrev pub night-of : Start → List Tick → List NightStep
+night-of start ticks = steps (fresh-box start) ticks
 
--- ---- what the box does along the list: each tick gets the box that the last one left
+-- ---- the accepted ticks of a night: those for which the box gave outputs
 
-abbrev pub answers : AirBox → List Tick → List Answer
-answers box [] = []
-answers box (k ∷ ks) = tick box k .answer ∷ answers (tick box k .state) ks
+-- the ticks accepted so far, `earlier`, and then k, if the box gave outputs for it
+abbrev pub accepted-after : List Tick → Tick → ControllerOutput ⊎ ℕ → List Tick
+accepted-after earlier k (inl output) = earlier ++ (k ∷ [])
+accepted-after earlier k (inr number) = earlier
 
--- the airflow sensor output of each answer that has outputs, in order
-abbrev pub sensor-alarms : List Answer → List ℤ
-sensor-alarms [] = []
-sensor-alarms (Accepted out ∷ rest) = out .«airflow_sensor_alarm» ∷ sensor-alarms rest
-sensor-alarms (Refused reason ∷ rest) = sensor-alarms rest
+-- P holds of each step of a night, and of the ticks that were accepted before it. Before the night those were `earlier`.
+abbrev pub Along : (List Tick → NightStep → Type 0) → List Tick → List NightStep → Type 0
+Along P earlier [] = Unit
+Along P earlier (s ∷ rest) = P earlier s × Along P (accepted-after earlier (s .tick) (s .given)) rest
+
+-- the time of the last of the accepted ticks
+abbrev pub last-time : List Tick → OptionalTime
+last-time [] = Absent
+last-time (k ∷ []) = At (k .t)
+last-time (j ∷ k ∷ ks) = last-time (k ∷ ks)
+
+-- an accepted tick and its own outputs
+pub record Shown : Type 0 where
+  pub tick : Tick
+  pub output : ControllerOutput
+
+abbrev pub shown-before : Tick → ControllerOutput ⊎ ℕ → List Shown → List Shown
+shown-before k (inl output) rest = record { tick = k; output = output } ∷ rest
+shown-before k (inr number) rest = rest
+
+-- the accepted ticks of a night, each with its own outputs, in order
+abbrev pub shown : List NightStep → List Shown
+shown [] = []
+shown (s ∷ rest) = shown-before (s .tick) (s .given) (shown rest)
 
 -- ---- what a tick carries
 
@@ -56,35 +79,41 @@ fan k = k .input .«supply_fan_status»
 abbrev pub mode : Tick → ℤ
 mode k = k .input .«operating_mode»
 
--- ---- document 01, 'The flow-high rule'
-
--- H, and H - 0.01, as f64 operations
-abbrev pub H : Float
-H = decimal 1 10 ⊗ decimal 15 10
-
-abbrev pub H-less : Float
-H-less = H ⊖ decimal 1 100
+-- ---- document 01, 'The flow-high rule', for any limit
 
 -- the flow is above `limit` at each of the ticks
 abbrev pub AllAbove : Float → List Tick → Type 0
 AllAbove limit [] = Unit
 AllAbove limit (k ∷ ks) = T (flow k >ᶠ limit) × AllAbove limit ks
 
--- Flow is high at the last of the accepted ticks ks: at it, or at some earlier one, the flow was above H, and at every one from that to the last it was above H - 0.01.
-pub record FlowHigh (ks : List Tick) : Type 0 where
+-- Flow is high at the last of the accepted ticks ks: at it, or at some earlier one, the flow was above `limit`,
+-- and at every one from that to the last it was above `limit` - 0.01.
+pub record FlowHigh (limit : Float) (ks : List Tick) : Type 0 where
   pub before : List Tick
   pub rise : Tick
   pub since : List Tick
   pub parts : ks ≡ before ++ (rise ∷ since)
-  pub above : T (flow rise >ᶠ H)
-  pub stays-above : AllAbove H-less (rise ∷ since)
+  pub above : T (flow rise >ᶠ limit)
+  pub stays-above : AllAbove (limit ⊖ decimal 1 100) (rise ∷ since)
 
 -- what `greater_hysteretic` does step by step along the ticks, from the memory `high`
-abbrev pub flow-high-stepped : Bool → List Tick → Bool
-flow-high-stepped high [] = high
-flow-high-stepped high (k ∷ ks) = flow-high-stepped (greater-hysteretic (flow k) H (decimal 1 100) high) ks
+abbrev pub flow-high-stepped : Float → Bool → List Tick → Bool
+flow-high-stepped limit high [] = high
+flow-high-stepped limit high (k ∷ ks) = flow-high-stepped limit (greater-hysteretic (flow k) limit (decimal 1 100) high) ks
 
--- At each of the accepted ticks ks, which come after the accepted ticks `earlier`, flow is high with the fan off.
-abbrev pub HighFanOff : List Tick → List Tick → Type 0
-HighFanOff earlier [] = Unit
-HighFanOff earlier (k ∷ ks) = FlowHigh (earlier ++ (k ∷ [])) × T (not (fan k)) × HighFanOff (earlier ++ (k ∷ [])) ks
+-- ---- a condition that has held for a time. `Holds earlier k` says that it holds at the accepted tick k, before which those of `earlier` were accepted.
+
+-- it holds at each of the accepted ticks ks, which come after those of `earlier`
+abbrev pub HoldsAlong : (List Tick → Tick → Type 0) → List Tick → List Tick → Type 0
+HoldsAlong Holds earlier [] = Unit
+HoldsAlong Holds earlier (k ∷ ks) = Holds earlier k × HoldsAlong Holds (earlier ++ (k ∷ [])) ks
+
+-- Of the accepted ticks, the last of which is k: it has held at every one from `start` up to k, and `start` is at least `length` seconds back,
+-- or, unless `delay-on-init`, it is the very first. Accepted times are whole numbers of seconds, so `seconds` of one is the time itself.
+pub record HeldFor (Holds : List Tick → Tick → Type 0) (length : ℕ) (delay-on-init : Bool) (accepted : List Tick) (k : Tick) : Type 0 where
+  pub earlier : List Tick
+  pub start : Tick
+  pub since : List Tick
+  pub parts : accepted ≡ earlier ++ (start ∷ since)
+  pub held : HoldsAlong Holds earlier (start ∷ since)
+  pub long : (seconds (start .t) + length ≤ seconds (k .t)) ⊎ ((earlier ≡ []) × T (not delay-on-init))
