@@ -1,4 +1,5 @@
--- The air box of document 01: the Rust's state with the last accepted time and the start choice beside it, the questions asked of a tick, the quiet start and the desk code.
+-- The air box of document 01: the Rust's state with the last accepted time and the start choice beside it,
+-- the questions asked of a tick, the quiet start and the desk code.
 use Prim.Native.Nat.{ℕ}
 use mathlib.Core.Bool.{Bool, true, false, not, _&&_}
 use mathlib.Core.Logic.{_⊎_, inl, inr}
@@ -20,7 +21,15 @@ use Rattle.air_box.specs.declared.AirBoxStep.{AirBoxStep}
 use Rattle.air_box.specs.declared.Answer.{Answer}
 use Rattle.air_box.specs.declared.Answer.the-variants.{Accepted, Refused}
 use Rattle.air_box.specs.declared.Refusal.{Refusal}
-use Rattle.air_box.specs.declared.Refusal.the-variants.{NotWholeSeconds, TimeOutOfRange, BeforeLast, TooLongAfterLast, TemperatureOutOfRange, Co2OutOfRange, AirflowOutOfRange}
+use Rattle.air_box.specs.declared.Refusal.the-variants.{
+  NotWholeSeconds,
+  TimeOutOfRange,
+  BeforeLast,
+  TooLongAfterLast,
+  TemperatureOutOfRange,
+  Co2OutOfRange,
+  AirflowOutOfRange,
+}
 use Rattle.air_box.specs.declared.Verdict.{Verdict}
 use Rattle.air_box.specs.declared.Verdict.the-variants.{Accept, Refuse}
 

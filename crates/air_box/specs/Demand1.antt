@@ -1,5 +1,7 @@
--- Demand 1. For every box, whatever it holds, and every tick, whatever it carries: the tick is refused for the seven reasons only, by the first "no"; it then gives that reason's number and changes nothing.
--- That the tick ends and does nothing undefined is what the check of the method `AirBox::tick` shows: its contract has no `requires`, and says that it returns `tick` of the box and the tick.
+-- Demand 1. For every box, whatever it holds, and every tick, whatever it carries: the tick is refused for the seven reasons only,
+-- by the first "no"; it then gives that reason's number and changes nothing.
+-- That the tick ends and does nothing undefined is what the check of the method `AirBox::tick` shows: its contract has no `requires`,
+-- and says that it returns `tick` of the box and the tick.
 use mathlib.Core.Path.{_≡_}
 use mathlib.Core.Logic.{_↔_, inl, inr}
 use Prim.Native.Nat.{ℕ, _<_}
@@ -26,7 +28,8 @@ pub record Demand1 : Type 0 where
   pub number-of-the-first-no : (box : AirBox) (k : Tick) (reason : Refusal)
       → (given-for box k ≡ inr (refusal-number reason)) ↔ FirstNo reason (box .«last_time») k
   -- there is no other number
-  pub no-other-number : (box : AirBox) (k : Tick) (number : ℕ) → given-for box k ≡ inr number → (reason : Refusal) × (number ≡ refusal-number reason)
+  pub no-other-number : (box : AirBox) (k : Tick) (number : ℕ)
+      → given-for box k ≡ inr number → (reason : Refusal) × (number ≡ refusal-number reason)
   -- a tick gives outputs exactly if no question gets a "no"
   pub outputs-if-all-yes : (box : AirBox) (k : Tick)
       → ((output : ControllerOutput) × (given-for box k ≡ inl output)) ↔ AllYes (box .«last_time») k

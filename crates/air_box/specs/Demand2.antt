@@ -1,5 +1,7 @@
--- Demand 2. On every accepted tick, whatever the box holds, all ten outputs and each field of the controller's next state are those of `controller-output`.
--- `controller-output` follows the Rust's `ControllerState::output` line by line, with document 01's rules for the helpers. For a plain start that is what the Rust gives on accepted ticks; this is argued and run, not proved (docs/DIFFERENCES.md).
+-- Demand 2. On every accepted tick, whatever the box holds, all ten outputs and each field of the controller's next state
+-- are those of `controller-output`.
+-- `controller-output` follows the Rust's `ControllerState::output` line by line, with document 01's rules for the helpers.
+-- For a plain start that is what the Rust gives on accepted ticks; this is argued and run, not proved (docs/DIFFERENCES.md).
 -- The method `AirBox::tick` returns `tick` of the box and the tick, by its contract.
 use mathlib.Core.Path.{_≡_}
 use mathlib.Core.Logic.{inl}

@@ -17,7 +17,20 @@ use Rattle.air_box.specs.declared.Tick.{Tick}
 use Rattle.air_box.specs.declared.Refusal.{Refusal}
 use Rattle.air_box.specs.declared.Start.{Start}
 use Rattle.air_box.specs.declared.Start.the-variants.{Plain}
-use Rattle.nights.specs.Nights.{NightStep, night-of, Along, last-time, Shown, shown, flow, fan, mode, FlowHigh, flow-high-stepped, HeldFor}
+use Rattle.nights.specs.Nights.{
+  NightStep,
+  night-of,
+  Along,
+  last-time,
+  Shown,
+  shown,
+  flow,
+  fan,
+  mode,
+  FlowHigh,
+  flow-high-stepped,
+  HeldFor,
+}
 
 -- ---- the flow-high rule
 
@@ -41,8 +54,8 @@ pub record ExactAlarm (start : Start) (earlier : List Tick) (k : Tick) (alarm : 
   pub three : (alarm ≡ pos 3) ↔ ((mode k ≡ pos 1) × HeldFor HighFanOff 600 (delay-on-init start) (earlier ++ (k ∷ [])) k)
   pub else-none : (alarm ≡ pos 3) ⊎ (alarm ≡ pos 0)
 
--- What is given for the tick k is right. Outputs are given if no question gets a "no" after the last accepted time, and their alarm is exact.
--- A number is that of the first "no".
+-- What is given for the tick k is right: outputs only if no question gets a "no" after the last accepted time,
+-- and then their alarm is exact; a number only if it is that of the first "no".
 abbrev pub ExactGiven : Start → List Tick → Tick → ControllerOutput ⊎ ℕ → Type 0
 ExactGiven start earlier k (inl output) = AllYes (last-time earlier) k × ExactAlarm start earlier k (output .«airflow_sensor_alarm»)
 ExactGiven start earlier k (inr number) = (reason : Refusal) × FirstNo reason (last-time earlier) k × (number ≡ refusal-number reason)
@@ -50,11 +63,13 @@ ExactGiven start earlier k (inr number) = (reason : Refusal) × FirstNo reason (
 -- At every tick of every night what is given is right.
 abbrev pub EveryNightExactly : Start → Type 0
 EveryNightExactly start =
-    (night : List Tick) → Along (λ (earlier : List Tick) (s : NightStep). ExactGiven start earlier (s .tick) (s .given)) [] (night-of start night)
+    (night : List Tick)
+    → Along (λ (earlier : List Tick) (s : NightStep). ExactGiven start earlier (s .tick) (s .given)) [] (night-of start night)
 
 -- ---- two nights
 
--- Accepted ticks at equal times, as numbers, with equal modes. The second's flow is not lower, and its fan is not on where the first's is off.
+-- Accepted ticks at equal times, as numbers, with equal modes.
+-- The second's flow is not lower, and its fan is not on where the first's is off.
 pub record NoWeaker (j k : Tick) : Type 0 where
   pub times : T (eq (j .t) (k .t))
   pub modes : mode j ≡ mode k
@@ -65,8 +80,8 @@ pub record NoWeaker (j k : Tick) : Type 0 where
 abbrev pub ThreeIfThree : ControllerOutput → ControllerOutput → Type 0
 ThreeIfThree a b = a .«airflow_sensor_alarm» ≡ pos 3 → b .«airflow_sensor_alarm» ≡ pos 3
 
--- For every two nights whose accepted ticks are equally many and so related, first with first: the second shows alarm 3 wherever the first does.
--- Refused ticks may differ in number and place.
+-- For every two nights whose accepted ticks are equally many and so related, first with first:
+-- the second shows alarm 3 wherever the first does. Refused ticks may differ in number and place.
 abbrev pub TwoNights : Start → Type 0
 TwoNights start =
     (first second : List Tick)

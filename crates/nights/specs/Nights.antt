@@ -1,5 +1,6 @@
 -- Nights of ticks: what a box does along a list of ticks, what a tick carries, and rules over the ticks that were accepted.
--- A night is a list of ticks in the order in which they come. Each is run by `tick`, which is what the method `AirBox::tick` is proved to return.
+-- A night is a list of ticks in the order in which they come.
+-- Each is run by `tick`, which is what the method `AirBox::tick` is proved to return.
 use mathlib.Core.Path.{_≡_}
 use mathlib.Core.Logic.{_⊎_, inl, inr}
 use mathlib.Core.List.{List, [], _∷_, _++_}
@@ -101,16 +102,19 @@ abbrev pub flow-high-stepped : Float → Bool → List Tick → Bool
 flow-high-stepped limit high [] = high
 flow-high-stepped limit high (k ∷ ks) = flow-high-stepped limit (greater-hysteretic (flow k) limit (decimal 1 100) high) ks
 
--- ---- a condition that has held for a time. `Holds earlier k` says that it holds at the accepted tick k, before which those of `earlier` were accepted.
+-- ---- a condition that has held for a time
+-- `Holds earlier k` says that it holds at the accepted tick k, before which those of `earlier` were accepted.
 
 -- it holds at each of the accepted ticks ks, which come after those of `earlier`
 abbrev pub HoldsAlong : (List Tick → Tick → Type 0) → List Tick → List Tick → Type 0
 HoldsAlong Holds earlier [] = Unit
 HoldsAlong Holds earlier (k ∷ ks) = Holds earlier k × HoldsAlong Holds (earlier ++ (k ∷ [])) ks
 
--- Of the accepted ticks, the last of which is k: it has held at every one from `start` up to k, and `start` is at least `length` seconds back,
--- or, unless `delay-on-init`, it is the very first. Accepted times are whole numbers of seconds, so `seconds` of one is the time itself.
-pub record HeldFor (Holds : List Tick → Tick → Type 0) (length : ℕ) (delay-on-init : Bool) (accepted : List Tick) (k : Tick) : Type 0 where
+-- Of the accepted ticks, the last of which is k: it has held at every one from `start` up to k,
+-- and `start` is at least `length` seconds back, or, unless `delay-on-init`, it is the very first.
+-- Accepted times are whole numbers of seconds, so `seconds` of one is the time itself.
+pub record HeldFor (Holds : List Tick → Tick → Type 0) (length : ℕ) (delay-on-init : Bool)
+    (accepted : List Tick) (k : Tick) : Type 0 where
   pub earlier : List Tick
   pub start : Tick
   pub since : List Tick

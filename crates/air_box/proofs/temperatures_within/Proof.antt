@@ -6,7 +6,12 @@ use Rattle.air_box.proofs.temperatures_within.Tie as tie
 
 returns : tie.Need-returns
 unfolding ofBits round
-returns c = rw (c .within5 .ensures, c .before .within4 .ensures, c .before .before .within3 .ensures, c .before .before .before .within2 .ensures, c .before .before .before .before .within .ensures)
+returns c =
+    let discharge-air = c .before in
+    let heating-setpoint = discharge-air .before in
+    let cooling-setpoint = heating-setpoint .before in
+    let zone = cooling-setpoint .before in
+    rw (c .within5 .ensures, discharge-air .within4 .ensures, heating-setpoint .within3 .ensures, cooling-setpoint .within2 .ensures, zone .within .ensures)
 
 pub temperatures-within-spec : {M : Type 1} → statement M
 temperatures-within-spec =

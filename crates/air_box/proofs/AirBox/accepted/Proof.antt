@@ -6,7 +6,10 @@ use Rattle.air_box.proofs.AirBox.accepted.Tie as tie
 
 returns : tie.Need-returns
 unfolding accepted-tick
-returns c = rw (c .before .before .output .ensures, c .before .before .before .before .delay-on-init .ensures)
+returns c =
+    let stepped = c .before .before in
+    let start-read = stepped .before .before in
+    rw (stepped .output .ensures, start-read .delay-on-init .ensures)
 
 pub accepted-spec : {M : Type 1} → statement M
 accepted-spec = tie.close (tie.spec (λ c κs. search needs) (λ c κs. search needs) returns)

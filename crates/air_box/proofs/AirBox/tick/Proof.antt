@@ -9,11 +9,17 @@ enum-told c = search needs
 
 returns : tie.Need-returns
 unfolding tick
-returns c = rw (← c .before .before .before .questions .ensures, c .before .verdict .given .1)
+returns c =
+    let matched = c .before in
+    let asked = matched .before .before in
+    rw (← asked .questions .ensures, matched .verdict .given .1)
 
 returns-2 : tie.Need-returns-2
 unfolding tick
-returns-2 c = rw (c .accepted .ensures, ← c .before .before .before .questions .ensures, c .before .enum-told .given .1)
+returns-2 c =
+    let matched = c .before in
+    let asked = matched .before .before in
+    rw (c .accepted .ensures, ← asked .questions .ensures, matched .enum-told .given .1)
 
 pub tick-spec : {M : Type 1} → statement M
 tick-spec =
