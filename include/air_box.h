@@ -68,7 +68,8 @@
 #error "the archive of the air box is for x86-64 with the System V ABI"
 #endif
 
-/* C99 and later, C++98 and later. The assertions hold each struct to the size and offsets that the archive was built with. */
+/* C99 and later, C++98 and later. The assertions hold each struct to sizes and offsets that stand here as numbers. That the archive has the same layout
+   rests on its records being declared as C lays them out (repr(C)), and on programs that are linked to it and compared on every bit. */
 #if defined(__cplusplus) && __cplusplus >= 201103L
 #define AIR_BOX_ASSERT(fact) static_assert(fact, #fact)
 #elif !defined(__cplusplus) && defined(__STDC_VERSION__) && __STDC_VERSION__ >= 201112L
