@@ -8,11 +8,16 @@ use lib.IntN.{ℤ, pos, negsuc}
 use lib.Ieee.{Float, neg}
 use Rattle.f64_helpers.specs.F64.{decimal, zero}
 use Rattle.cdl_recurrences.specs.CdlRecurrences.{buildings-line}
-use Rattle.cooling_only_controller_timing.specs.Timing.{sampler-sample, fresh-sampler}
+use Rattle.cdl_recurrences.specs.declared.OptionalTime.the-variants.{At}
+use Rattle.cooling_only_controller_timing.specs.Timing.{sampler-sample, fresh-sampler, fresh-unit-delay, fresh-true-delay}
 use Rattle.cooling_only_controller_timing.specs.History.{Sample, true-delay-after}
 use Rattle.cooling_only_controller_timing.specs.declared.SamplerState.{SamplerState}
-use Rattle.cooling_only_controller_conditioning.specs.Conditioning.{active-airflow, suppression-window, window-passed, zone-states, fresh-zone-states}
-use Rattle.cooling_only_controller_airflow.specs.Airflow.{airflow-override, alarms, fresh-alarms}
+use Rattle.cooling_only_controller_conditioning.specs.Conditioning.{time-suppression, fresh-latch}
+use Rattle.cooling_only_controller_conditioning.specs.Conditioning.{active-airflow, zone-states, fresh-zone-states}
+use Rattle.cooling_only_controller_conditioning.specs.ConditioningPieces.{suppression-window}
+use Rattle.cooling_only_controller_conditioning.specs.declared.TimeSuppressionState.{TimeSuppressionState}
+use Rattle.cooling_only_controller_airflow.specs.Airflow.{damper, fresh-damper, alarms, fresh-alarms}
+use Rattle.cooling_only_controller_airflow.specs.declared.DamperInput.{DamperInput}
 use Rattle.cooling_only_controller_airflow.specs.declared.AlarmInput.{AlarmInput}
 use Rattle.cooling_only_controller_airflow.specs.declared.AlarmsState.{AlarmsState}
 use Rattle.air_box.specs.AirBox.{tick, fresh-box}
@@ -55,7 +60,14 @@ c-after n = delayed (replicate n true ++ (false ∷ (replicate 4 true ++ (false 
 
 -- ---- d: the flow-high memory of the alarms stage after these flows, newest first
 abbrev flow-of : Float → AlarmInput
-flow-of flow = record { «discharge_airflow» = flow; «active_airflow_setpoint» = zero; «supply_fan_status» = false; «operation_mode» = pos 1; «damper_position» = zero }
+flow-of flow =
+    record {
+      «discharge_airflow» = flow;
+      «active_airflow_setpoint» = zero;
+      «supply_fan_status» = false;
+      «operation_mode» = pos 1;
+      «damper_position» = zero;
+    }
 
 abbrev alarms-after : List Float → AlarmsState
 alarms-after [] = fresh-alarms
@@ -63,6 +75,46 @@ alarms-after (flow ∷ older) = alarms (alarms-after older) zero (flow-of flow) 
 
 abbrev high : List Float → Value
 high flows = flag (alarms-after flows .«flow_high»)
+
+-- ---- e: the damper's airflow setpoint with this override; zone state 2, so that the base is the active minimum
+abbrev base-of : ℤ → Float → DamperInput
+base-of index base =
+    record {
+      «active_minimum_flow» = base;
+      «supply_air_temperature» = zero;
+      «zone_temperature» = zero;
+      «cooling_loop» = zero;
+      «active_cooling_maximum_flow» = zero;
+      «zone_state» = pos 2;
+      «airflow_override_index» = index;
+      «supply_fan_status» = false;
+      «discharge_airflow» = zero;
+      «damper_override_index» = pos 0;
+    }
+
+abbrev overridden : ℤ → Value
+overridden index = of-base (λ base. damper fresh-damper zero (base-of index base) .output .«airflow_setpoint»)
+
+-- ---- h: suppression since 0 with these captured, and whether the window has passed when so much time has elapsed
+abbrev suppressed : Float → Float → TimeSuppressionState
+suppressed captured-setpoint captured-zone =
+    record {
+      «setpoint_sampler» = fresh-sampler;
+      «previous_sample» = fresh-unit-delay;
+      «startup_delay» = fresh-true-delay;
+      «change_detected» = false;
+      «suppression_latch» = record { held = true; «previous_input» = false };
+      «passed_latch» = fresh-latch;
+      timer = record { «entry_time» = At zero; «previous_input» = true };
+      «previous_active» = true;
+      «previous_passed» = false;
+      «captured_setpoint» = captured-setpoint;
+      «captured_zone» = captured-zone;
+    }
+
+abbrev passed : Float → Float → Float → Value
+passed elapsed captured-setpoint captured-zone =
+    flag (time-suppression (suppressed captured-setpoint captured-zone) elapsed captured-setpoint captured-zone .state .«previous_passed»)
 
 -- ---- i: the sampler of period 120, first tick at 130 with 1.0, then one with 2.0
 abbrev first-sampled : SamplerState
@@ -130,12 +182,12 @@ cases =
     ∷ (high (decimal 13 100 ∷ decimal 145 1000 ∷ decimal 16 100 ∷ []) is flag false)
     ∷ (high (decimal 145 1000 ∷ []) is flag false)
     -- e
-    ∷ (of-base (airflow-override (pos 1)) is of-base (λ base. zero))
-    ∷ (of-base (airflow-override (pos 2)) is of-base (λ base. decimal 15 10))
-    ∷ (of-base (airflow-override (pos 3)) is of-base (λ base. decimal 5 10))
-    ∷ (of-base (airflow-override (negsuc 0)) is of-base (λ base. base))
-    ∷ (of-base (airflow-override (pos 0)) is of-base (λ base. base))
-    ∷ (of-base (airflow-override (pos 4)) is of-base (λ base. base))
+    ∷ (overridden (pos 1) is of-base (λ base. zero))
+    ∷ (overridden (pos 2) is of-base (λ base. decimal 15 10))
+    ∷ (overridden (pos 3) is of-base (λ base. decimal 5 10))
+    ∷ (overridden (negsuc 0) is of-base (λ base. base))
+    ∷ (overridden (pos 0) is of-base (λ base. base))
+    ∷ (overridden (pos 4) is of-base (λ base. base))
     -- f
     ∷ (number (active-airflow (pos 1) (decimal 75 100) .«cooling_maximum») is number (decimal 15 10))
     ∷ (number (active-airflow (pos 1) (decimal 75 100) .minimum) is number (decimal 75 100))
@@ -151,11 +203,11 @@ cases =
     ∷ (number (buildings-line zero (decimal 5 10) (decimal 1 1) (decimal 15 10) (decimal 2 1)) is number (decimal 15 10))
     -- h
     ∷ (number (suppression-window (decimal 297 1) (decimal 296 1)) is number (decimal 540 1))
-    ∷ (flag (window-passed (decimal 540 1) (decimal 297 1) (decimal 296 1)) is flag false)
-    ∷ (flag (window-passed (decimal 600 1) (decimal 297 1) (decimal 296 1)) is flag true)
+    ∷ (passed (decimal 540 1) (decimal 297 1) (decimal 296 1) is flag false)
+    ∷ (passed (decimal 600 1) (decimal 297 1) (decimal 296 1) is flag true)
     ∷ (number (suppression-window (decimal 300 1) (decimal 296 1)) is number (decimal 1800 1))
-    ∷ (flag (window-passed (decimal 1800 1) (decimal 300 1) (decimal 296 1)) is flag false)
-    ∷ (flag (window-passed (decimal 1860 1) (decimal 300 1) (decimal 296 1)) is flag true)
+    ∷ (passed (decimal 1800 1) (decimal 300 1) (decimal 296 1) is flag false)
+    ∷ (passed (decimal 1860 1) (decimal 300 1) (decimal 296 1) is flag true)
     -- i
     ∷ (number (first-sampled .t0) is number (decimal 120 1))
     ∷ (then-sampled (decimal 239 1) is number (decimal 1 1))

@@ -1,4 +1,5 @@
--- The thresholds that a loop's output or a damper command is held to, told to the last bit: the answer turns between two neighbouring f64, written as their bits.
+-- The thresholds that a loop's output or a damper command is held to, told to the last bit: the answer turns between two neighbouring
+-- f64, written as their bits.
 -- No night is sure to bring a reading so close, so these hold the definitions where the comparison with the Rust may not reach.
 use mathlib.Core.Path.{_≡_}
 use mathlib.Core.List.{List, [], _∷_}
@@ -17,13 +18,16 @@ use Rattle.cooling_only_controller_airflow.specs.declared.SystemRequestsState.{
 
 -- each test of x, by what it was before
 abbrev heating-signal : Bool → Float → Bool
-heating-signal was x = zone-states (record { «heating_signal» = was; «cooling_signal» = false; «heating_tiebreak» = false }) x zero .state .«heating_signal»
+heating-signal was x =
+    zone-states (record { «heating_signal» = was; «cooling_signal» = false; «heating_tiebreak» = false }) x zero .state .«heating_signal»
 
 abbrev cooling-signal : Bool → Float → Bool
-cooling-signal was x = zone-states (record { «heating_signal» = false; «cooling_signal» = was; «heating_tiebreak» = false }) zero x .state .«cooling_signal»
+cooling-signal was x =
+    zone-states (record { «heating_signal» = false; «cooling_signal» = was; «heating_tiebreak» = false }) zero x .state .«cooling_signal»
 
 abbrev heating-tiebreak : Bool → Float → Bool
-heating-tiebreak was x = zone-states (record { «heating_signal» = false; «cooling_signal» = false; «heating_tiebreak» = was }) x zero .state .«heating_tiebreak»
+heating-tiebreak was x =
+    zone-states (record { «heating_signal» = false; «cooling_signal» = false; «heating_tiebreak» = was }) x zero .state .«heating_tiebreak»
 
 -- the two loops with no error and the integrator x, so that the output is x
 abbrev loops-at : Bool → Float → ControlLoopsState
