@@ -1,4 +1,4 @@
--- The sampler's law over any history of ticks at whole seconds, for a whole period: it gives the input of the newest sampled tick. Assumes nothing.
+-- The sampler's law over any history of ticks at whole seconds, for a whole period of at most 2 ^ 20: it gives the input of the newest sampled tick. Assumes nothing.
 use mathlib.Core.Path.{_≡_, refl, ap, _∙_}
 use mathlib.Core.Logic.{_↔_}
 use Prim.Native.Nat.{ℕ, _*_, _/_, _^_, _≤_, _<_}

@@ -1,4 +1,4 @@
--- The unit delay's law over any history of ticks at whole seconds, for a whole period: at a sampled tick it gives the newest input that it took before, and 0.0 where it took none. Assumes nothing.
+-- The unit delay's law over any history of ticks at whole seconds, for a whole period of at most 2 ^ 20: at a sampled tick it gives the newest input that it took before, and 0.0 where it took none. Assumes nothing.
 use mathlib.Core.Path.{_≡_, refl, sym, ap, ap₂, _∙_, subst}
 use mathlib.Core.Logic.{_⊎_, inl, inr}
 use Prim.Native.Nat.{ℕ, _-_, _*_, _/_, _%_, _^_, _≤_, _<_}

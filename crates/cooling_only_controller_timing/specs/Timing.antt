@@ -61,7 +61,10 @@ unit-delay-sample s t input period =
     let next = sample-due t (s .t0) period (s .«last_index») in
     if not (s .initialized) then record { state = unit-delay-first-sample s t input period; output = s .held }
     else if not (next .due) then record { state = s; output = s .held }
-    else record { state = record { initialized = true; t0 = s .t0; «last_index» = next .index; held = s .staged; staged = input }; output = s .staged }
+    else record {
+      state = record { initialized = true; t0 = s .t0; «last_index» = next .index; held = s .staged; staged = input };
+      output = s .staged;
+    }
 
 -- ---- Rust `TrueDelayState`; CDL.Logical.TrueDelay
 
@@ -72,7 +75,10 @@ fresh-true-delay = record { «previous_time» = Absent; «previous_input» = fal
 unfoldable pub true-delay : TrueDelayState → Float → Bool → Float → Bool → TrueDelayStep
 true-delay s t input delay-time delay-on-init =
     let next = true-delay-output t input delay-time delay-on-init (s .«previous_time») (s .«previous_input») (s .held) (s .timer) in
-    record { state = record { «previous_time» = At t; «previous_input» = input; held = next .output; timer = next .timer }; output = next .output }
+    record {
+      state = record { «previous_time» = At t; «previous_input» = input; held = next .output; timer = next .timer };
+      output = next .output;
+    }
 
 -- ---- Rust `TimerState`; CDL.Logical.Timer
 
