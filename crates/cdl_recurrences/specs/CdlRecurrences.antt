@@ -7,7 +7,7 @@ use lib.IntN.{ℤ}
 use lib.Signed.{ltZ}
 use lib.Ieee.{Float}
 use Rattle.f64_helpers.specs.F64.{_⊕_, _⊖_, _⊗_, _⊘_, _<ᶠ_, _>ᶠ_, _≤ᶠ_, _≥ᶠ_, decimal, zero, if_then_else_}
-use Rattle.f64_helpers.specs.Helpers.{floor, ceil, larger, as-i64}
+use Rattle.f64_helpers.specs.Helpers.{floor, ceil, max, as-i64}
 use Rattle.cdl_recurrences.specs.declared.OptionalTime.{OptionalTime}
 use Rattle.cdl_recurrences.specs.declared.OptionalTime.the-variants.{Absent, At}
 use Rattle.cdl_recurrences.specs.declared.TrueDelayOutput.{TrueDelayOutput}
@@ -40,7 +40,7 @@ greater-hysteretic u1 u2 h previous = (not previous && (u1 >ᶠ u2)) || (previou
 -- The last three cases of Rust `true_delay_output`: the input is true, and it is not the first tick.
 unfoldable pub true-delay-running : Float → Float → Float → Bool → Bool → Float → TrueDelayOutput
 true-delay-running t delay previous-time prev-u held timer =
-    let next-timer = timer ⊕ larger (t ⊖ previous-time) zero in
+    let next-timer = timer ⊕ max (t ⊖ previous-time) zero in
     if held then record { output = true; timer = delay }
     else if not prev-u then record { output = delay ≤ᶠ zero; timer = zero }
     else record { output = next-timer ≥ᶠ delay; timer = next-timer }
@@ -50,10 +50,10 @@ true-delay-running t delay previous-time prev-u held timer =
 unfoldable pub true-delay-output : Float → Bool → Float → Bool → OptionalTime → Bool → Bool → Float → TrueDelayOutput
 true-delay-output t false delay-time delay-on-init prev-time prev-u held timer = record { output = false; timer = zero }
 true-delay-output t true delay-time delay-on-init Absent prev-u held timer =
-    let delay = larger delay-time zero in
+    let delay = max delay-time zero in
     if delay-on-init && (delay >ᶠ zero) then record { output = false; timer = zero } else record { output = true; timer = delay }
 true-delay-output t true delay-time delay-on-init (At previous-time) prev-u held timer =
-    true-delay-running t (larger delay-time zero) previous-time prev-u held timer
+    true-delay-running t (max delay-time zero) previous-time prev-u held timer
 
 -- Rust `buildings_round_six`: to six decimals, a half away from 0
 unfoldable pub buildings-round-six : Float → Float

@@ -3,7 +3,7 @@ use mathlib.Core.Bool.{Bool, true, false, not, _&&_}
 use lib.IntN.{pos}
 use lib.Ieee.{Float}
 use Rattle.f64_helpers.specs.F64.{_⊖_, _⊘_, _≤ᶠ_, decimal, zero, if_then_else_}
-use Rattle.f64_helpers.specs.Helpers.{abs, larger, as-f64}
+use Rattle.f64_helpers.specs.Helpers.{abs, max, as-f64}
 use Rattle.cdl_recurrences.specs.CdlRecurrences.{true-delay-output, sampler-output, initial-sample-time, sample-index, sample-due}
 use Rattle.cdl_recurrences.specs.declared.OptionalTime.{OptionalTime}
 use Rattle.cdl_recurrences.specs.declared.OptionalTime.the-variants.{Absent, At}
@@ -102,4 +102,4 @@ timer-elapsed s t input =
 -- Rust's `previous_time.map_or(0.0, |previous| (t - previous).max(0.0))`, in LoopPiState and DamperState
 abbrev pub step-seconds : OptionalTime → Float → Float
 step-seconds Absent t = zero
-step-seconds (At previous) t = larger (t ⊖ previous) zero
+step-seconds (At previous) t = max (t ⊖ previous) zero

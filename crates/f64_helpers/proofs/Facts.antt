@@ -13,7 +13,7 @@ use lib.Ieee.Compare.{differs-from-itself}
 use lib.Ieee.Exact.{HasValue, round-exact}
 use lib.Ieee.Back.{whole-unique, round-whole}
 use Rattle.f64_helpers.specs.F64.{zero as zeroᶠ}
-use Rattle.f64_helpers.specs.Helpers.{floor, ceil, abs, quotient-down, quotient-up, negative, larger}
+use Rattle.f64_helpers.specs.Helpers.{floor, ceil, abs, quotient-down, quotient-up, negative, max}
 
 -- ---- a test's answer, as the fact
 pub yes : {b : Bool} → b ≡ true → T b
@@ -350,11 +350,11 @@ nan-test (fin false m e) = unfold ne isNan in same (eqb (m * up e * down e) (m *
 pub is-nan : (x : Float) (b : Bool) → ne x x ≡ b → isNan x ≡ b
 is-nan x b h = sym (nan-test x) ∙ h
 
--- `larger` with its tests as variables
-pub larger-by-tests : (x y : Float) (n l a b : Bool) → isNan x ≡ n → lt x y ≡ l → eq x zeroᶠ ≡ a → eq y zeroᶠ ≡ b
-    → cond n y (cond l y (cond (a && b) (fin (negative x && negative y) 0 (pos 0)) x)) ≡ larger x y
-unfolding larger
-larger-by-tests x y n l a b N L A B = λ i. cond (sym N i) y (cond (sym L i) y (cond (sym A i && sym B i) (fin (negative x && negative y) 0 (pos 0)) x))
+-- `max` with its tests as variables
+pub max-by-tests : (x y : Float) (n l a b : Bool) → isNan x ≡ n → lt x y ≡ l → eq x zeroᶠ ≡ a → eq y zeroᶠ ≡ b
+    → cond n y (cond l y (cond (a && b) (fin (negative x && negative y) 0 (pos 0)) x)) ≡ max x y
+unfolding max
+max-by-tests x y n l a b N L A B = λ i. cond (sym N i) y (cond (sym L i) y (cond (sym A i && sym B i) (fin (negative x && negative y) 0 (pos 0)) x))
 
 -- ---- the ends of i64's range
 quotient-large : (m : ℕ) (e : ℤ) → 9223372036854775808 * down e ≤ m * up e * 1 → 9223372036854775808 ≤ m * up e / down e

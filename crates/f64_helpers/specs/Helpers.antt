@@ -49,16 +49,16 @@ abbrev pub both-zero : Float → Float → Bool
 both-zero x y = eq x zero && eq y zero
 
 -- Rust's `x.max(y)`. Of a NaN and a number the number is taken, of two NaNs NaN. Of two zeros it is -0.0 only if both are.
-unfoldable pub larger : Float → Float → Float
-larger x y =
+unfoldable pub max : Float → Float → Float
+max x y =
     if isNan x then y
     else if x <ᶠ y then y
     else if both-zero x y then fin (negative x && negative y) 0 (pos 0)
     else x
 
 -- Rust's `x.min(y)`. Of two zeros it is -0.0 if either is.
-unfoldable pub smaller : Float → Float → Float
-smaller x y =
+unfoldable pub min : Float → Float → Float
+min x y =
     if isNan x then y
     else if x >ᶠ y then y
     else if both-zero x y then fin (negative x || negative y) 0 (pos 0)

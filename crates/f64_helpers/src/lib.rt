@@ -71,7 +71,7 @@ pub fn abs(x: f64) -> f64
 
 // `a.max(b)`. The sum of two zeros is -0.0 only if both are.
 pub fn max(a: f64, b: f64) -> f64
-    ensures { λ r. ⌜ r ≡ Helpers.larger a b ⌝ }
+    ensures { λ r. ⌜ r ≡ Helpers.max a b ⌝ }
 {
     if a != a {
         b
@@ -86,14 +86,14 @@ pub fn max(a: f64, b: f64) -> f64
 
 // `x.max(0.0)`, by one comparison: what is above 0 comes back, and all else gives 0.0, a zero of either sign and a NaN too.
 pub fn max_zero(x: f64) -> f64
-    ensures { λ r. ⌜ r ≡ Helpers.larger x zero ⌝ }
+    ensures { λ r. ⌜ r ≡ Helpers.max x zero ⌝ }
 {
     if x > 0.0 { x } else { 0.0 }
 }
 
 // `a.min(b)`.
 pub fn min(a: f64, b: f64) -> f64
-    ensures { λ r. ⌜ r ≡ Helpers.smaller a b ⌝ }
+    ensures { λ r. ⌜ r ≡ Helpers.min a b ⌝ }
 {
     -max(-a, -b)
 }
