@@ -5,7 +5,7 @@ use lib.IntN.{ℤ, pos}
 use lib.Signed.{leZ}
 use lib.Ieee.{Float, neg}
 use Rattle.f64_helpers.specs.F64.{_⊕_, _⊖_, _⊗_, _⊘_, _>ᶠ_, decimal, zero, if_then_else_}
-use Rattle.f64_helpers.specs.Helpers.{abs, smaller}
+use Rattle.f64_helpers.specs.Helpers.{abs, min}
 use Rattle.f64_helpers.specs.Integers.{_==ᶻ_}
 use Rattle.cdl_recurrences.specs.CdlRecurrences.{buildings-line, clamp, greater-hysteretic, hysteresis, less-hysteretic}
 use Rattle.cdl_recurrences.specs.declared.OptionalTime.the-variants.{Absent, At}
@@ -119,7 +119,7 @@ setpoint-change s t setpoint-temperature =
 
 -- The `suppression_window` of Rust `TimeSuppressionState::output`
 unfoldable pub suppression-window : Float → Float → Float
-suppression-window captured-setpoint captured-zone = smaller (decimal 540 1 ⊗ abs (captured-setpoint ⊖ captured-zone)) (decimal 1800 1)
+suppression-window captured-setpoint captured-zone = min (decimal 540 1 ⊗ abs (captured-setpoint ⊖ captured-zone)) (decimal 1800 1)
 
 -- its `passed`: the elapsed time exceeds the window. The comparison is strict.
 abbrev pub window-passed : Float → Float → Float → Bool
