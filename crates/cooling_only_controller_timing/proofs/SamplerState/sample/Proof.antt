@@ -8,7 +8,7 @@ use mir.Facts.{toZ-ofZ}
 use Rattle.cdl_recurrences.specs.CdlRecurrences.{sampler-output}
 use Rattle.f64_helpers.specs.F64.{if_then_else_}
 use Rattle.cooling_only_controller_timing.specs.declared.SamplerState.{SamplerState}
-use Rattle.cooling_only_controller_timing.specs.Timing.{sampler-sample, sampler-after-sample}
+use Rattle.cooling_only_controller_timing.specs.Timing.{sampler-sample}
 use borrow.Author.Needs.{needs}
 use Rattle.cooling_only_controller_timing.proofs.SamplerState.sample.Statement.{statement}
 use Rattle.cooling_only_controller_timing.proofs.SamplerState.sample.Tie as tie
@@ -21,7 +21,7 @@ by-due s input index true = refl
 by-due s input index false = refl
 
 returns : tie.Need-returns
-unfolding sampler-sample sampler-after-sample sampler-output
+unfolding sampler-sample sampler-output
 returns c =
     let d = c .before .before .before .before in
     let a = d .before .before .before .args in
@@ -34,7 +34,7 @@ returns c =
     rw (kept, is, c .choose .ensures, d .before .before .if1 .taken, ← due, by-due (a .self) (a .input) (next .index) (next .due))
 
 returns-2 : tie.Need-returns-2
-unfolding sampler-sample sampler-after-sample sampler-output
+unfolding sampler-sample sampler-output
 returns-2 c = rw (c .sampler-first-sample .ensures, c .before .if1 .left)
 
 pub sample-spec : {M : Type 1} → statement M
