@@ -12,7 +12,7 @@ use lib.Ieee.{Float, nan, inf, fin, binary64, up, down, round, fits, lt, eq, isN
 use lib.Ieee.Exact.{HasValue}
 use lib.Ieee.Back.{round-whole}
 use Rattle.f64_helpers.specs.Helpers.{floor, ceil, abs, quotient-down, quotient-up, negative, max, min}
-use Rattle.f64_helpers.proofs.Facts.{exact, fits-frac}
+use Rattle.f64_helpers.proofs.Values.{exact, fits-frac}
 
 -- ---- the two quotients are the whole numbers next to a / b: q * b ≤ a < (q + 1) * b, and q * b < a + b with a ≤ q * b
 pub quotient-down-is : (a b : ℕ) → 0 < b → (quotient-down a b * b ≤ a) × (a < quotient-down a b * b + b)

@@ -8,7 +8,9 @@ use mir.Syntax.{w64}
 use mir.Val.{Fits}
 use lib.Dec.{T}
 use lib.Ieee.{Float, ofBits, lt}
-use Rattle.f64_helpers.proofs.Facts.{yes, no, ceil-small-more, ceil-small-same, ceil-large, count-small, above-minus-one, below-2-64}
+use Rattle.f64_helpers.proofs.Tests.{yes, no}
+use Rattle.f64_helpers.proofs.Floors.{ceil-small-more, ceil-small-same, ceil-large}
+use Rattle.f64_helpers.proofs.Casts.{count-small, above-minus-one, below-2-64}
 use Rattle.f64_helpers.proofs.ceil_of_positive.Statement.{statement}
 use Rattle.f64_helpers.proofs.ceil_of_positive.Tie as tie
 

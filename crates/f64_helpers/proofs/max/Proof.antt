@@ -3,7 +3,8 @@ use mathlib.Core.Path.{refl, _∙_}
 use mathlib.Core.Bool.{true, false}
 use lib.Ieee.{ofBits, lt, eq}
 use Rattle.f64_helpers.specs.F64.{zero}
-use Rattle.f64_helpers.proofs.Facts.{yes, sum-of-zeros, is-nan, max-by-tests}
+use Rattle.f64_helpers.proofs.Tests.{yes, is-nan}
+use Rattle.f64_helpers.proofs.LargerOfTwo.{sum-of-zeros, max-by-tests}
 use Rattle.f64_helpers.proofs.max.Statement.{statement}
 use Rattle.f64_helpers.proofs.max.Tie as tie
 

@@ -6,7 +6,8 @@ use lib.Dec.{T, not-T}
 use lib.Ieee.{Float, fin, ofBits, lt, eq, le, isNan}
 use Rattle.f64_helpers.specs.F64.{zero}
 use Rattle.f64_helpers.specs.Helpers.{max, negative}
-use Rattle.f64_helpers.proofs.Facts.{yes, no, max-by-tests}
+use Rattle.f64_helpers.proofs.Tests.{yes, no}
+use Rattle.f64_helpers.proofs.LargerOfTwo.{max-by-tests}
 use Rattle.f64_helpers.proofs.Order.{le-numbers, lt→le, eq→le, not-both, lt-is-not-le}
 use Rattle.f64_helpers.proofs.max_zero.Statement.{statement}
 use Rattle.f64_helpers.proofs.max_zero.Tie as tie
