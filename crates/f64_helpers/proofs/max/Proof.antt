@@ -24,19 +24,25 @@ returns-2 c =
 returns-3 : tie.Need-returns-3
 unfolding ofBits
 returns-3 c =
-    let s = c .before .before .before .before in
+    let at-zero = c .before in
+    let at-order = at-zero .before in
+    let at-nan = at-order .before in
+    let s = at-nan .before in
     let x = s .args .a in
     let y = s .args .b in
-    sum-of-zeros x y (yes (s .good .0 .1)) (yes (s .good .1 .0 .1)) (yes (c .before .if3 .taken)) (yes (c .if4 .taken))
-    ∙ max-by-tests x y false false true true (is-nan x false (c .before .before .before .if1 .left)) (c .before .before .if2 .left) (c .before .if3 .taken) (c .if4 .taken)
+    sum-of-zeros x y (yes (s .good .0 .1)) (yes (s .good .1 .0 .1)) (yes (at-zero .if3 .taken)) (yes (c .if4 .taken))
+    ∙ max-by-tests x y false false true true (is-nan x false (at-nan .if1 .left)) (at-order .if2 .left) (at-zero .if3 .taken) (c .if4 .taken)
 
 returns-4 : tie.Need-returns-4
 unfolding ofBits
 returns-4 c =
-    let s = c .before .before .before .before in
+    let at-zero = c .before in
+    let at-order = at-zero .before in
+    let at-nan = at-order .before in
+    let s = at-nan .before in
     let x = s .args .a in
     let y = s .args .b in
-    max-by-tests x y false false true false (is-nan x false (c .before .before .before .if1 .left)) (c .before .before .if2 .left) (c .before .if3 .taken) (c .if4 .left)
+    max-by-tests x y false false true false (is-nan x false (at-nan .if1 .left)) (at-order .if2 .left) (at-zero .if3 .taken) (c .if4 .left)
 
 returns-5 : tie.Need-returns-5
 unfolding ofBits
