@@ -1,11 +1,13 @@
--- What the recurrences of cdl_recurrences.rs return, in that file's order, each after what it uses. Each definition names its Rust function and, where there is one, its block of the Modelica Buildings library (CDL).
--- Document 01 decides `clamp`, `hysteresis`, `less-hysteretic`, `sampler-output`, `initial-sample-time`, `sample-index` and `sample-due`; docs/DIFFERENCES.md has each pair that differs.
+-- What the recurrences of cdl_recurrences.rs return, in that file's order, each after what it uses.
+-- Each definition names its Rust function and, where there is one, its block of the Modelica Buildings library (CDL).
+-- Document 01 decides `clamp`, `hysteresis`, `less-hysteretic`, `sampler-output`, `initial-sample-time`, `sample-index` and `sample-due`;
+-- docs/DIFFERENCES.md has the pairs that were found to differ.
 use mathlib.Core.Bool.{Bool, true, false, not, _&&_, _||_}
 use lib.IntN.{ℤ}
 use lib.Signed.{ltZ}
 use lib.Ieee.{Float}
 use Rattle.f64_helpers.specs.F64.{_⊕_, _⊖_, _⊗_, _⊘_, _<ᶠ_, _>ᶠ_, _≤ᶠ_, _≥ᶠ_, decimal, zero, if_then_else_}
-use Rattle.f64_helpers.specs.Helpers.{floor, ceil, larger, as-i64}
+use Rattle.f64_helpers.specs.Helpers.{floor, ceil, max, as-i64}
 use Rattle.cdl_recurrences.specs.declared.OptionalTime.{OptionalTime}
 use Rattle.cdl_recurrences.specs.declared.OptionalTime.the-variants.{Absent, At}
 use Rattle.cdl_recurrences.specs.declared.TrueDelayOutput.{TrueDelayOutput}
@@ -38,20 +40,20 @@ greater-hysteretic u1 u2 h previous = (not previous && (u1 >ᶠ u2)) || (previou
 -- The last three cases of Rust `true_delay_output`: the input is true, and it is not the first tick.
 unfoldable pub true-delay-running : Float → Float → Float → Bool → Bool → Float → TrueDelayOutput
 true-delay-running t delay previous-time prev-u held timer =
-    let next-timer = timer ⊕ larger (t ⊖ previous-time) zero in
+    let next-timer = timer ⊕ max (t ⊖ previous-time) zero in
     if held then record { output = true; timer = delay }
     else if not prev-u then record { output = delay ≤ᶠ zero; timer = zero }
     else record { output = next-timer ≥ᶠ delay; timer = next-timer }
 
 -- Rust `true_delay_output`; CDL.Logical.TrueDelay. A rising input is passed on once it has been true for the delay, a falling one at once.
--- A first input that is true is passed on at once, unless `delay-on-init`.
+-- A first input that is true is passed on at once, unless `delay-on-init` and the delay is above 0: then it counts as rising there.
 unfoldable pub true-delay-output : Float → Bool → Float → Bool → OptionalTime → Bool → Bool → Float → TrueDelayOutput
 true-delay-output t false delay-time delay-on-init prev-time prev-u held timer = record { output = false; timer = zero }
 true-delay-output t true delay-time delay-on-init Absent prev-u held timer =
-    let delay = larger delay-time zero in
+    let delay = max delay-time zero in
     if delay-on-init && (delay >ᶠ zero) then record { output = false; timer = zero } else record { output = true; timer = delay }
 true-delay-output t true delay-time delay-on-init (At previous-time) prev-u held timer =
-    true-delay-running t (larger delay-time zero) previous-time prev-u held timer
+    true-delay-running t (max delay-time zero) previous-time prev-u held timer
 
 -- Rust `buildings_round_six`: to six decimals, a half away from 0
 unfoldable pub buildings-round-six : Float → Float
@@ -60,11 +62,13 @@ buildings-round-six x =
     let half = decimal 5 10 in
     if x >ᶠ zero then floor (x ⊗ factor ⊕ half) ⊘ factor else ceil (x ⊗ factor ⊖ half) ⊘ factor
 
--- Rust `initial_sample_time`; the `t0` of CDL.Discrete.Sampler and UnitDelay: the last sample instant that is not after the start. Below one period it is -0.0.
+-- Rust `initial_sample_time`; the `t0` of CDL.Discrete.Sampler and UnitDelay: the whole multiple of the period at or before the start,
+-- to six decimals.
+-- A start from 0 to below one period gives -0.0; one below 0 goes down as well: -1 with a period of 120 gives -120.
 unfoldable pub initial-sample-time : Float → Float → Float
 initial-sample-time t-start period = buildings-round-six (floor (t-start ⊘ period) ⊗ period)
 
--- Rust `sample_index`, without its 1e-9: how many periods after t0, as an i64
+-- Rust `sample_index`, without its 1e-9: how many whole periods t-now lies after t0, as an i64
 unfoldable pub sample-index : Float → Float → Float → ℤ
 sample-index t-now t0 period = as-i64 (floor ((t-now ⊖ t0) ⊘ period))
 

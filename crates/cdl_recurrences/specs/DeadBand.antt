@@ -1,4 +1,5 @@
--- A dead band over readings of any kind, what its output is after a history of readings, and the comparators of CdlRecurrences over a history.
+-- A dead band over readings of any kind, what its output is after a history of readings, and the comparators of CdlRecurrences
+-- over a history.
 -- A history is a list with the newest reading first.
 use mathlib.Core.Path.{_≡_}
 use mathlib.Core.List.{List, [], _∷_, _++_}
@@ -24,7 +25,8 @@ abbrev pub AllStay : {A : Type 0} → (A → Bool) → List A → Type 0
 AllStay stay [] = Unit
 AllStay stay (x ∷ h) = T (stay x) × AllStay stay h
 
--- The history h is `newer`, then `start`, then `older`. The reading `start` passes the test `on`, and every newer one passes the test `stay`.
+-- The history h is `newer`, then `start`, then `older`.
+-- The reading `start` passes the test `on`, and every newer one passes the test `stay`.
 pub record Latched {A : Type 0} (on stay : A → Bool) (h : List A) : Type 0 where
   pub newer : List A
   pub start : A

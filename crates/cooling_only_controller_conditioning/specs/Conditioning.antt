@@ -9,7 +9,7 @@ use lib.IntN.{ℤ, pos}
 use lib.Signed.{leZ}
 use lib.Ieee.{Float, neg}
 use Rattle.f64_helpers.specs.F64.{_⊕_, _⊖_, _⊗_, _⊘_, _>ᶠ_, decimal, zero, if_then_else_}
-use Rattle.f64_helpers.specs.Helpers.{abs, smaller}
+use Rattle.f64_helpers.specs.Helpers.{abs, min}
 use Rattle.f64_helpers.specs.Integers.{_==ᶻ_}
 use Rattle.cdl_recurrences.specs.CdlRecurrences.{buildings-line, clamp, greater-hysteretic, hysteresis, less-hysteretic}
 use Rattle.cdl_recurrences.specs.declared.OptionalTime.the-variants.{Absent, At}
@@ -116,7 +116,7 @@ time-suppression s t setpoint-temperature zone-temperature =
     let rising-active = active .output && not (s .«previous_active») in
     let captured-setpoint = if rising-active then setpoint-temperature else s .«captured_setpoint» in
     let captured-zone = if rising-active then zone-temperature else s .«captured_zone» in
-    let suppression-window = smaller (decimal 540 1 ⊗ abs (captured-setpoint ⊖ captured-zone)) (decimal 1800 1) in
+    let suppression-window = min (decimal 540 1 ⊗ abs (captured-setpoint ⊖ captured-zone)) (decimal 1800 1) in
     let elapsed = timer-elapsed (s .timer) t (active .output) in
     let passed = elapsed .output >ᶠ suppression-window in
     let passed-latched = latch (s .«passed_latch») passed rising-active in

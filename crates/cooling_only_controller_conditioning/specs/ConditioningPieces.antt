@@ -4,7 +4,7 @@ use mathlib.Core.Bool.{Bool, false, not, _&&_}
 use lib.IntN.{ℤ, pos}
 use lib.Ieee.{Float}
 use Rattle.f64_helpers.specs.F64.{_⊖_, _⊗_, decimal, zero, if_then_else_}
-use Rattle.f64_helpers.specs.Helpers.{abs, smaller}
+use Rattle.f64_helpers.specs.Helpers.{abs, min}
 use Rattle.cdl_recurrences.specs.CdlRecurrences.{less-hysteretic}
 use Rattle.cooling_only_controller_timing.specs.Timing.{true-delay}
 use Rattle.cooling_only_controller_timing.specs.declared.TimerStep.{TimerStep}
@@ -34,7 +34,7 @@ change-detected s t setpoint-temperature =
 -- Its `suppression-window`
 unfoldable pub suppression-window : Float → Float → Float
 suppression-window captured-setpoint captured-zone =
-    smaller (decimal 540 1 ⊗ abs (captured-setpoint ⊖ captured-zone)) (decimal 1800 1)
+    min (decimal 540 1 ⊗ abs (captured-setpoint ⊖ captured-zone)) (decimal 1800 1)
 
 -- What it stores, in the order of the record's fields
 abbrev pub time-suppression-state : ChangeStep → LatchStep → LatchStep → TimerStep → Bool → Float → Float → TimeSuppressionState

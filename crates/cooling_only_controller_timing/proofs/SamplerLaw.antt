@@ -1,4 +1,4 @@
--- The sampler's law over any history of ticks at whole seconds, for a whole period: it gives the input of the newest sampled tick. Assumes nothing.
+-- The sampler's law over any history of ticks at whole seconds, for a whole period of at most 2 ^ 20: it gives the input of the newest sampled tick. Assumes nothing.
 use mathlib.Core.Path.{_≡_, refl, ap, _∙_}
 use mathlib.Core.Logic.{_↔_}
 use Prim.Native.Nat.{ℕ, _*_, _/_, _^_, _≤_, _<_}
@@ -11,7 +11,7 @@ use Rattle.f64_helpers.specs.Seconds.{Whole, seconds, IsTime}
 use Rattle.cdl_recurrences.specs.CdlRecurrences.{sampler-output, sample-due}
 use Rattle.cdl_recurrences.proofs.SampleGrid.{OnGrid, grid-first, grid-due, grid-sampled, grid-kept}
 use Rattle.cooling_only_controller_timing.specs.declared.SamplerState.{SamplerState}
-use Rattle.cooling_only_controller_timing.specs.Timing.{fresh-sampler, sampler-sample, sampler-after-sample}
+use Rattle.cooling_only_controller_timing.specs.Timing.{fresh-sampler, sampler-sample}
 use Rattle.cooling_only_controller_timing.specs.SamplerHistory.{SamplerTick, sampler-after, TimesInOrder, held-by-rule}
 
 -- the rule's test, in words: a multiple of p lies after m and not after n
@@ -34,7 +34,7 @@ state-by false s t u period = s
 
 state-later : (s : SamplerState) (t u period : Float) (b : Bool) → s .initialized ≡ true → sample-due t (s .t0) period (s .«last_index») .due ≡ b
     → sampler-sample s t u period .state ≡ state-by b s t u period
-unfolding sampler-sample sampler-after-sample
+unfolding sampler-sample
 state-later s t u period true e d = rw (e, d)
 state-later s t u period false e d = rw (e, d)
 
@@ -45,7 +45,7 @@ output-later s t u period b e d = rw (e, d)
 
 module _ (period : Float) (p : ℕ) (w : Whole period p) (P : 0 < p) (Q : p ≤ 2 ^ 20) where
   first-tick : (t u : Float) → IsTime t → Kept p (sampler-sample fresh-sampler t u period .state) (seconds t) u
-  unfolding sampler-sample sampler-after-sample
+  unfolding sampler-sample
   first-tick t u i = record { started = refl; place = grid-first period p w P Q t (seconds t) (i .0) (i .1); output = refl }
 
   module _ (s : SamplerState) (m : ℕ) (v t u : Float) (c : Kept p s m v) (i : IsTime t) (M : m ≤ seconds t) where

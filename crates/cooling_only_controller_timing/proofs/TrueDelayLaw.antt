@@ -10,9 +10,9 @@ use lib.IntN.{pos}
 use lib.Dec.{T, leb, leb→le, le→leb, nleb→lt}
 use lib.Ieee.{Float, fin, binary64, lt, eq, le, isNan}
 use Rattle.f64_helpers.specs.F64.{_⊕_, _⊖_, zero}
-use Rattle.f64_helpers.specs.Helpers.{larger, negative}
+use Rattle.f64_helpers.specs.Helpers.{max, negative}
 use Rattle.f64_helpers.specs.Seconds.{Whole, seconds, IsTime, NotNegative, seconds-up}
-use Rattle.f64_helpers.proofs.WholeSeconds.{zero-whole, add-whole, sub-whole, le-whole, larger-whole, same-test, Reach, reach-any}
+use Rattle.f64_helpers.proofs.WholeSeconds.{zero-whole, add-whole, sub-whole, le-whole, max-whole, same-test, Reach, reach-any}
 use Rattle.f64_helpers.proofs.Order.{le-trans, lt→le, eq→le, le-numbers, lt-is-not-le}
 use Rattle.cdl_recurrences.specs.CdlRecurrences.{true-delay-output, true-delay-running}
 use Rattle.cdl_recurrences.specs.DeadBand.{Related}
@@ -33,9 +33,9 @@ number-if-reached x d reach =
     let y = fin false d (pos 0) in
     le-numbers x y (subst T (sym (reach y d (refl, λ q. absurd q))) (le→leb d d (le-refl d))) .0
 
-larger-reached : (x : Float) (d : ℕ) → Reach x d → Reach (larger x zero) d
-unfolding larger eq
-larger-reached x d reach y n w = go (isNan x) (lt x zero) (eq x zero) (number-if-reached x d reach) (lt→le x zero) (eq→le x zero)
+max-reached : (x : Float) (d : ℕ) → Reach x d → Reach (max x zero) d
+unfolding max eq
+max-reached x d reach y n w = go (isNan x) (lt x zero) (eq x zero) (number-if-reached x d reach) (lt→le x zero) (eq→le x zero)
   where
     -- x is at most 0, and z is 0
     at-most-zero : (z : Float) → Whole z 0 → T (le x zero) → le z y ≡ leb d n
@@ -115,17 +115,17 @@ counts-from-zero : (d : ℕ) (delay-on-init : Bool) (h : List Sample) (t : Float
 counts-from-zero d delay-on-init h t none = (0, zero-whole, zero-le, λ now l. (λ o. ⊎-elim (λ e. omega arith) (λ z. absurd (none now z)) (o .1), λ e. (tt, inl (omega arith))))
 
 -- the timer's next value is exact
-next-whole : (t p x : Float) (n : ℕ) → IsTime t → IsTime p → seconds p ≤ seconds t → Whole x n → n ≤ seconds p → Whole (x ⊕ larger (t ⊖ p) zero) (n + (seconds t - seconds p))
+next-whole : (t p x : Float) (n : ℕ) → IsTime t → IsTime p → seconds p ≤ seconds t → Whole x n → n ≤ seconds p → Whole (x ⊕ max (t ⊖ p) zero) (n + (seconds t - seconds p))
 next-whole t p x n it ip l w b =
-    let gap : Whole (larger (t ⊖ p) zero) (seconds t - seconds p) =
-    subst (Whole (larger (t ⊖ p) zero)) (max-zero (seconds t - seconds p))
-    (larger-whole (t ⊖ p) zero (seconds t - seconds p) 0 (sub-whole binary64 t p (seconds t) (seconds p) (it .0) (ip .0) l (omega arith)) zero-whole) in
-    add-whole binary64 x (larger (t ⊖ p) zero) n (seconds t - seconds p) w gap (omega arith)
+    let gap : Whole (max (t ⊖ p) zero) (seconds t - seconds p) =
+    subst (Whole (max (t ⊖ p) zero)) (max-zero (seconds t - seconds p))
+    (max-whole (t ⊖ p) zero (seconds t - seconds p) 0 (sub-whole binary64 t p (seconds t) (seconds p) (it .0) (ip .0) l (omega arith)) zero-whole) in
+    add-whole binary64 x (max (t ⊖ p) zero) n (seconds t - seconds p) w gap (omega arith)
 
 module _ (delay-time : Float) (d : ℕ) (reach : Reach delay-time d) where
-  reached : (x : Float) (n : ℕ) → Whole x n → T (le (larger delay-time zero) x) ↔ (d ≤ n)
+  reached : (x : Float) (n : ℕ) → Whole x n → T (le (max delay-time zero) x) ↔ (d ≤ n)
   reached x n w =
-      let e = larger-reached delay-time d reach x n w in
+      let e = max-reached delay-time d reach x n w in
       (λ h. leb→le d n (subst T e h), λ h. subst T (sym e) (le→leb d n h))
 
   -- the input is false
@@ -138,11 +138,11 @@ module _ (delay-time : Float) (d : ℕ) (reach : Reach delay-time d) where
   unfolding true-delay-output isNan
   first false t i b x = ((λ q. (tt, inr tt), λ o. tt), λ q r. absurd r)
   first true t i b x =
-      subst (λ (b : Bool). RightOutput d true [] t true (cond b (record { output = false; timer = zero }) (record { output = true; timer = larger delay-time zero })))
-      (sym (lt-is-not-le zero (larger delay-time zero) tt (number-if-reached (larger delay-time zero) d (larger-reached delay-time d reach)) ∙ ap not (larger-reached delay-time d reach zero 0 zero-whole)))
+      subst (λ (b : Bool). RightOutput d true [] t true (cond b (record { output = false; timer = zero }) (record { output = true; timer = max delay-time zero })))
+      (sym (lt-is-not-le zero (max delay-time zero) tt (number-if-reached (max delay-time zero) d (max-reached delay-time d reach)) ∙ ap not (max-reached delay-time d reach zero 0 zero-whole)))
       (go (leb d 0) (leb→le d 0) (nleb→lt d 0))
     where
-      go : (b : Bool) → (T b → d ≤ 0) → (T (not b) → 0 < d) → RightOutput d true [] t true (cond (not b) (record { output = false; timer = zero }) (record { output = true; timer = larger delay-time zero }))
+      go : (b : Bool) → (T b → d ≤ 0) → (T (not b) → 0 < d) → RightOutput d true [] t true (cond (not b) (record { output = false; timer = zero }) (record { output = true; timer = max delay-time zero }))
       go true f g = ((λ q. (tt, inl (omega (arith, f tt))), λ o. tt), λ q r. absurd r)
       go false f g = (
         (λ q. absurd q, λ o. ⊎-elim (λ e. omega (arith, g tt)) (λ z. z) (o .1)),
@@ -163,9 +163,9 @@ module _ (delay-time : Float) (d : ℕ) (reach : Reach delay-time d) where
   running delay-on-init h t p true false x it ip l g =
       let c = g .1 tt tt in
       let n = c .0 in
-      let next = x ⊕ larger (t ⊖ p) zero in
+      let next = x ⊕ max (t ⊖ p) zero in
       let w : Whole next (n + (seconds t - seconds p)) = next-whole t p x n it ip l (c .1) (c .2) in
-      let r : T (le (larger delay-time zero) next) ↔ (d ≤ n + (seconds t - seconds p)) = reached next (n + (seconds t - seconds p)) w in (
+      let r : T (le (max delay-time zero) next) ↔ (d ≤ n + (seconds t - seconds p)) = reached next (n + (seconds t - seconds p)) w in (
         (λ q. (tt, inr (c .3 (seconds t) l .1 (r .0 q))), λ o. r .1 (⊎-elim (λ e. omega arith) (λ z. c .3 (seconds t) l .0 z) (o .1))),
         λ q s. (
           n + (seconds t - seconds p),

@@ -1,4 +1,4 @@
--- The unit delay's law over any history of ticks at whole seconds, for a whole period: at a sampled tick it gives the newest input that it took before, and 0.0 where it took none. Assumes nothing.
+-- The unit delay's law over any history of ticks at whole seconds, for a whole period of at most 2 ^ 20: at a sampled tick it gives the newest input that it took before, and 0.0 where it took none. Assumes nothing.
 use mathlib.Core.Path.{_≡_, refl, sym, ap, ap₂, _∙_, subst}
 use mathlib.Core.Logic.{_⊎_, inl, inr}
 use Prim.Native.Nat.{ℕ, _-_, _*_, _/_, _%_, _^_, _≤_, _<_}
@@ -19,7 +19,7 @@ use Rattle.cdl_recurrences.specs.CdlRecurrences.{initial-sample-time, sample-in
 use Rattle.cdl_recurrences.proofs.SampleGrid.{initial-sample-time-whole, sample-index-whole, OnGrid, grid-first, grid-due, grid-sampled, grid-kept}
 use Rattle.cooling_only_controller_timing.specs.declared.UnitDelayState.{UnitDelayState}
 use Rattle.cooling_only_controller_timing.specs.declared.UnitDelayStep.{UnitDelayStep}
-use Rattle.cooling_only_controller_timing.specs.Timing.{fresh-unit-delay, unit-delay-first-sample, unit-delay-sample}
+use Rattle.cooling_only_controller_timing.specs.Timing.{fresh-unit-delay, unit-delay-sample}
 use Rattle.cooling_only_controller_timing.specs.SamplerHistory.{SamplerTick, unit-delay-after, TimesInOrder, staged-by-rule, delayed-by-rule}
 
 -- ---- the first tick's test: within 1e-9 periods of the grid is on it
@@ -115,7 +115,7 @@ module _ (period : Float) (p : ℕ) (w : Whole period p) (P : 0 < p) (Q : p ≤ 
       rw (none, round-zero false 1 (lit≤ tt), div-is (t ⊖ t0) period (n % p) p d w P) (on-grid-test (negative (t ⊖ t0)) (n % p) p (sign-whole (t ⊖ t0) (n % p) d) R Q)
 
   first-tick : (t u : Float) → IsTime t → Kept p (unit-delay-sample fresh-unit-delay t u period .state) (seconds t) zeroᶠ (cond (eqb (seconds t % p) 0) u zeroᶠ)
-  unfolding unit-delay-sample unit-delay-first-sample
+  unfolding unit-delay-sample
   first-tick t u i =
       record {
         started = refl;

@@ -1,4 +1,5 @@
--- The true delay over a history of inputs, and what it means that an input has been true for a time. A history is a list with the newest sample first.
+-- The true delay over a history of inputs, and what it means that an input has been true for a time.
+-- A history is a list with the newest sample first.
 use mathlib.Core.Path.{_≡_}
 use mathlib.Core.Logic.{_⊎_}
 use mathlib.Core.List.{List, [], _∷_, _++_}
@@ -17,7 +18,8 @@ pub record Sample : Type 0 where
 -- the delay's state after a history; its output at the newest sample is the field `held`
 abbrev pub true-delay-after : Float → Bool → List Sample → TrueDelayState
 true-delay-after delay-time delay-on-init [] = fresh-true-delay
-true-delay-after delay-time delay-on-init (k ∷ h) = true-delay (true-delay-after delay-time delay-on-init h) (k .time) (k .input) delay-time delay-on-init .state
+true-delay-after delay-time delay-on-init (k ∷ h) =
+    true-delay (true-delay-after delay-time delay-on-init h) (k .time) (k .input) delay-time delay-on-init .state
 
 -- t is not before the newest sample
 abbrev pub NotBefore : Float → List Sample → Type 0

@@ -1,5 +1,7 @@
 -- The sampler and the unit delay over a history of ticks, and the rules by which a reader tells what they give.
--- A history is a list of ticks, the newest first. Times are whole seconds, and the period p is a whole number of seconds, above 0.
+-- A history is a list of ticks, the newest first. Times are whole seconds.
+-- That the blocks keep to the rules is proved (`sampler-law`, `unit-delay-law`) for a period p of whole seconds from 1 to 1,048,576,
+-- which is 2 ^ 20.
 use Prim.Native.Nat.{ℕ, _/_, _%_, _≤_}
 use mathlib.Core.Bool.{Bool, true}
 use mathlib.Core.List.{List, [], _∷_}

@@ -3,7 +3,7 @@ use mathlib.Core.Bool.{Bool, true, false, not, _&&_}
 use lib.IntN.{pos}
 use lib.Ieee.{Float}
 use Rattle.f64_helpers.specs.F64.{_⊖_, _⊘_, _≤ᶠ_, decimal, zero, if_then_else_}
-use Rattle.f64_helpers.specs.Helpers.{abs, larger, as-f64}
+use Rattle.f64_helpers.specs.Helpers.{abs, max, as-f64}
 use Rattle.cdl_recurrences.specs.CdlRecurrences.{true-delay-output, sampler-output, initial-sample-time, sample-index, sample-due}
 use Rattle.cdl_recurrences.specs.declared.OptionalTime.{OptionalTime}
 use Rattle.cdl_recurrences.specs.declared.OptionalTime.the-variants.{Absent, At}
@@ -21,47 +21,39 @@ use Rattle.cooling_only_controller_timing.specs.declared.TimerStep.{Time
 abbrev pub fresh-sampler : SamplerState
 fresh-sampler = record { initialized = false; t0 = zero; «last_index» = pos 0; held = zero }
 
--- The state after the first tick, which starts the grid and is sampled.
-abbrev pub sampler-first-sample : Float → Float → Float → SamplerState
-sampler-first-sample t input period =
-    let first-t0 = initial-sample-time t period in
-    record { initialized = true; t0 = first-t0; «last_index» = sample-index t first-t0 period; held = input }
-
--- The state after a tick: a tick after the first is sampled when due.
-unfoldable pub sampler-after-sample : SamplerState → Float → Float → Float → SamplerState
-sampler-after-sample s t input period =
-    let next = sample-due t (s .t0) period (s .«last_index») in
-    if not (s .initialized) then sampler-first-sample t input period
-    else if next .due then record { initialized = true; t0 = s .t0; «last_index» = next .index; held = input }
-    else s
-
--- Rust `SamplerState::sample`
+-- Rust `SamplerState::sample`. The first tick starts the grid and is sampled; a later one is sampled when due.
 unfoldable pub sampler-sample : SamplerState → Float → Float → Float → SamplerStep
 sampler-sample s t input period =
     let output = sampler-output t input period (s .initialized) (s .t0) (s .«last_index») (s .held) in
-    record { state = sampler-after-sample s t input period; output = output }
+    let first-t0 = initial-sample-time t period in
+    let next = sample-due t (s .t0) period (s .«last_index») in
+    let state =
+    if not (s .initialized) then record { initialized = true; t0 = first-t0; «last_index» = sample-index t first-t0 period; held = input }
+    else if next .due then record { initialized = true; t0 = s .t0; «last_index» = next .index; held = input }
+    else s in
+    record { state = state; output = output }
 
 -- ---- Rust `UnitDelayState`; CDL.Discrete.UnitDelay
 
 abbrev pub fresh-unit-delay : UnitDelayState
 fresh-unit-delay = record { initialized = false; t0 = zero; «last_index» = pos 0; held = zero; staged = zero }
 
--- The state after the first tick: its input is staged only if t is within 1e-9 periods of the grid.
-unfoldable pub unit-delay-first-sample : UnitDelayState → Float → Float → Float → UnitDelayState
-unit-delay-first-sample s t input period =
-    let first-t0 = initial-sample-time t period in
-    let last-index = sample-index t first-t0 period in
-    let sample-position = (t ⊖ first-t0) ⊘ period in
-    let on-grid = abs (sample-position ⊖ as-f64 last-index) ≤ᶠ decimal 1 1000000000 in
-    record { initialized = true; t0 = first-t0; «last_index» = last-index; held = s .held; staged = if on-grid then input else s .staged }
-
--- Rust `UnitDelayState::sample`
+-- Rust `UnitDelayState::sample`. The first tick starts the grid, and its input is staged only if it is within 1e-9 periods of the grid.
 unfoldable pub unit-delay-sample : UnitDelayState → Float → Float → Float → UnitDelayStep
 unit-delay-sample s t input period =
+    let first-t0 = initial-sample-time t period in
+    let first-index = sample-index t first-t0 period in
+    let sample-position = (t ⊖ first-t0) ⊘ period in
+    let on-grid = abs (sample-position ⊖ as-f64 first-index) ≤ᶠ decimal 1 1000000000 in
+    let first-staged = if on-grid then input else s .staged in
     let next = sample-due t (s .t0) period (s .«last_index») in
-    if not (s .initialized) then record { state = unit-delay-first-sample s t input period; output = s .held }
+    if not (s .initialized) then record {
+      state = record { initialized = true; t0 = first-t0; «last_index» = first-index; held = s .held; staged = first-staged };
+      output = s .held;
+    }
     else if not (next .due) then record { state = s; output = s .held }
-    else record { state = record { initialized = true; t0 = s .t0; «last_index» = next .index; held = s .staged; staged = input }; output = s .staged }
+    else let output = s .staged in
+    record { state = record { initialized = true; t0 = s .t0; «last_index» = next .index; held = output; staged = input }; output = output }
 
 -- ---- Rust `TrueDelayState`; CDL.Logical.TrueDelay
 
@@ -72,7 +64,10 @@ fresh-true-delay = record { «previous_time» = Absent; «previous_input» = fal
 unfoldable pub true-delay : TrueDelayState → Float → Bool → Float → Bool → TrueDelayStep
 true-delay s t input delay-time delay-on-init =
     let next = true-delay-output t input delay-time delay-on-init (s .«previous_time») (s .«previous_input») (s .held) (s .timer) in
-    record { state = record { «previous_time» = At t; «previous_input» = input; held = next .output; timer = next .timer }; output = next .output }
+    record {
+      state = record { «previous_time» = At t; «previous_input» = input; held = next .output; timer = next .timer };
+      output = next .output;
+    }
 
 -- ---- Rust `TimerState`; CDL.Logical.Timer
 
@@ -96,4 +91,4 @@ timer-elapsed s t input =
 -- Rust's `previous_time.map_or(0.0, |previous| (t - previous).max(0.0))`, in LoopPiState and DamperState
 abbrev pub step-seconds : OptionalTime → Float → Float
 step-seconds Absent t = zero
-step-seconds (At previous) t = larger (t ⊖ previous) zero
+step-seconds (At previous) t = max (t ⊖ previous) zero

@@ -1,5 +1,6 @@
 // The timing blocks of cooling_only_controller_timing.rs: sampler, unit delay, true delay, timer. A state goes in by value and comes back beside the output.
 ghost use mathlib.Core.Path.{_≡_};
+ghost use mathlib.Core.Bool.{false};
 ghost use Rattle.f64_helpers.specs.F64.{if_then_else_};
 ghost use Rattle.cooling_only_controller_timing.specs.Timing as Timing;
 use cdl_recurrences::OptionalTime;
@@ -65,9 +66,9 @@ fn last_sample_index(due: bool, index: i64, last_index: i64) -> i64
     if due { index } else { last_index }
 }
 
-// The first tick starts the grid and is sampled.
+// The state of a sampler after its first tick.
 fn sampler_first_sample(t: f64, input: f64, period: f64) -> SamplerState
-    ensures { λ r. ⌜ r ≡ Timing.sampler-first-sample t input period ⌝ }
+    ensures { λ r. ⌜ r ≡ Timing.sampler-sample Timing.fresh-sampler t input period .state ⌝ }
 {
     let t0 = cdl_recurrences::initial_sample_time(t, period);
     let index = cdl_recurrences::sample_index(t, t0, period);
@@ -135,9 +136,10 @@ impl UnitDelayState {
         }
     }
 
-    // The first tick starts the grid, and stages its input only if it stands on the grid.
+    // The state after the first tick.
     fn first_sample(self, t: f64, input: f64, period: f64) -> UnitDelayState
-        ensures { λ r. ⌜ r ≡ Timing.unit-delay-first-sample self t input period ⌝ }
+        requires { ⌜ self .initialized ≡ false ⌝ }
+        ensures { λ r. ⌜ r ≡ Timing.unit-delay-sample self t input period .state ⌝ }
     {
         let t0 = cdl_recurrences::initial_sample_time(t, period);
         let index = cdl_recurrences::sample_index(t, t0, period);

@@ -1,4 +1,10 @@
-mod Facts
+mod Tests
+mod Values
+mod Casts
+mod Floors
+mod Negation
+mod AbsoluteValue
+mod LargerOfTwo
 mod Signs
 mod WholeTest
 pub mod Meaning

@@ -11,8 +11,8 @@ use lib.Pow.{pow-pos}
 use lib.Ieee.{Float, nan, inf, fin, binary64, up, down, round, fits, lt, eq, isNan}
 use lib.Ieee.Exact.{HasValue}
 use lib.Ieee.Back.{round-whole}
-use Rattle.f64_helpers.specs.Helpers.{floor, ceil, abs, quotient-down, quotient-up, negative, larger, smaller}
-use Rattle.f64_helpers.proofs.Facts.{exact, fits-frac}
+use Rattle.f64_helpers.specs.Helpers.{floor, ceil, abs, quotient-down, quotient-up, negative, max, min}
+use Rattle.f64_helpers.proofs.Values.{exact, fits-frac}
 
 -- ---- the two quotients are the whole numbers next to a / b: q * b ≤ a < (q + 1) * b, and q * b < a + b with a ≤ q * b
 pub quotient-down-is : (a b : ℕ) → 0 < b → (quotient-down a b * b ≤ a) × (a < quotient-down a b * b + b)
@@ -81,38 +81,38 @@ abs-not-negative (inf s) = refl
 abs-not-negative (fin s m e) = refl
 
 -- of a NaN and a number the number is taken, of two NaNs NaN
-pub larger-nan : (y : Float) → larger nan y ≡ y
-unfolding larger isNan
-larger-nan y = refl
+pub max-nan : (y : Float) → max nan y ≡ y
+unfolding max isNan
+max-nan y = refl
 
-pub smaller-nan : (y : Float) → smaller nan y ≡ y
-unfolding smaller isNan
-smaller-nan y = refl
+pub min-nan : (y : Float) → min nan y ≡ y
+unfolding min isNan
+min-nan y = refl
 
 -- y is no number, so no test of x against it passes
 other-nan : (x z : Float) (b : Bool) → cond (b && false) z x ≡ x
 other-nan x z true = refl
 other-nan x z false = refl
 
-pub larger-other-nan : (x : Float) → larger x nan ≡ x
-unfolding larger isNan lt eq
-larger-other-nan nan = refl
-larger-other-nan (inf s) = refl
-larger-other-nan (fin s m e) = other-nan (fin s m e) (fin (s && false) 0 (pos 0)) (eq (fin s m e) (fin false 0 (pos 0)))
+pub max-other-nan : (x : Float) → max x nan ≡ x
+unfolding max isNan lt eq
+max-other-nan nan = refl
+max-other-nan (inf s) = refl
+max-other-nan (fin s m e) = other-nan (fin s m e) (fin (s && false) 0 (pos 0)) (eq (fin s m e) (fin false 0 (pos 0)))
 
-pub smaller-other-nan : (x : Float) → smaller x nan ≡ x
-unfolding smaller isNan lt eq
-smaller-other-nan nan = refl
-smaller-other-nan (inf s) = refl
-smaller-other-nan (fin s m e) = other-nan (fin s m e) (fin (s || false) 0 (pos 0)) (eq (fin s m e) (fin false 0 (pos 0)))
+pub min-other-nan : (x : Float) → min x nan ≡ x
+unfolding min isNan lt eq
+min-other-nan nan = refl
+min-other-nan (inf s) = refl
+min-other-nan (fin s m e) = other-nan (fin s m e) (fin (s || false) 0 (pos 0)) (eq (fin s m e) (fin false 0 (pos 0)))
 
 -- the larger of two zeros of unlike sign is 0.0, the smaller -0.0
-pub larger-zeros : (s : Bool) → larger (fin s 0 (pos 0)) (fin (not s) 0 (pos 0)) ≡ fin false 0 (pos 0)
-unfolding larger isNan lt eq
-larger-zeros true = refl
-larger-zeros false = refl
+pub max-zeros : (s : Bool) → max (fin s 0 (pos 0)) (fin (not s) 0 (pos 0)) ≡ fin false 0 (pos 0)
+unfolding max isNan lt eq
+max-zeros true = refl
+max-zeros false = refl
 
-pub smaller-zeros : (s : Bool) → smaller (fin s 0 (pos 0)) (fin (not s) 0 (pos 0)) ≡ fin true 0 (pos 0)
-unfolding smaller isNan lt eq
-smaller-zeros true = refl
-smaller-zeros false = refl
+pub min-zeros : (s : Bool) → min (fin s 0 (pos 0)) (fin (not s) 0 (pos 0)) ≡ fin true 0 (pos 0)
+unfolding min isNan lt eq
+min-zeros true = refl
+min-zeros false = refl

@@ -8,7 +8,7 @@ use lib.Dec.{T, ltb, eqb, eqb→eq}
 use lib.Ieee.{Float, nan, inf, fin, up, down, below, level, neg, lt, eq, isNan}
 use lib.Ieee.Fits.{eq→eqb}
 use Rattle.f64_helpers.specs.F64.{zero}
-use Rattle.f64_helpers.specs.Helpers.{larger, smaller, negative}
+use Rattle.f64_helpers.specs.Helpers.{max, min, negative}
 
 pub neg-neg : (x : Float) → neg (neg x) ≡ x
 unfolding neg
@@ -35,7 +35,7 @@ zero-turned s a b z = go (eqb a b) (λ t. eq→eqb (eqb→eq a b t ∙ z))
         both true true t = refl
         both false true t = refl
 
--- the tests of `larger`, at turned signs
+-- the tests of `max`, at turned signs
 nan-turned : (x : Float) → isNan (neg x) ≡ isNan x
 unfolding neg isNan
 nan-turned nan = refl
@@ -73,9 +73,9 @@ either-negative : (s t : Bool) → not (not s && not t) ≡ (s || t)
 either-negative true t = refl
 either-negative false t = Bool·not-not t
 
-pub neg-larger : (x y : Float) → neg (larger (neg x) (neg y)) ≡ smaller x y
-unfolding larger smaller neg
-neg-larger x y =
+pub neg-max : (x y : Float) → neg (max (neg x) (neg y)) ≡ min x y
+unfolding max min neg
+neg-max x y =
     (λ i. neg (cond (nan-turned x i) (neg y) (cond (lt-turned x y i) (neg y) (cond (is-zero-turned x i && is-zero-turned y i) (fin (negative (neg x) && negative (neg y)) 0 (pos 0)) (neg x)))))
     ∙ go (isNan x) (lt y x) (eq x zero) (eq y zero) (negative-turned x) (negative-turned y)
   where

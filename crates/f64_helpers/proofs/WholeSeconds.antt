@@ -1,7 +1,7 @@
--- f64 arithmetic on whole numbers is exact: on floats that stand for whole numbers of 0 or more, `add`, `sub`, `lt`, `eq`, `le` and `larger` are those of the numbers. Assumes nothing.
+-- f64 arithmetic on whole numbers is exact: on floats that stand for whole numbers of 0 or more, `add`, `sub`, `lt`, `eq`, `le` and `max` are those of the numbers. Assumes nothing.
 use mathlib.Core.Path.{_≡_, refl, sym, ap, _∙_, subst}
 use mathlib.Core.Logic.{_↔_}
-use Prim.Native.Nat.{ℕ, suc, _+_, _-_, _*_, _/_, _^_, _≤_, _<_, max}
+use Prim.Native.Nat.{ℕ, suc, _+_, _-_, _*_, _/_, _^_, _≤_, _<_, max as maxℕ}
 use native.Mathlib.Nat.{mul-one, zero-mul, add-mul, mul-assoc, mul-right-comm, mul-comm, mul-pos, zero-lt-suc, mul-le-mul-right, mul-lt-mul-of-pos-right, lt-of-mul-lt-mul-right, le-of-mul-le-mul-right, div-lt-iff-lt-mul, suc-mul, eq-of-mul-eq-mul-right, mul-div-cancel, max-eq-left, max-eq-right, le-of-lt}
 use native.Mathlib.Omega.{arith}
 use mathlib.Core.Bool.{Bool, true, false, not, _&&_, _||_, cond, Bool·beq}
@@ -13,7 +13,7 @@ use lib.Ieee.Exact.{HasValue}
 use lib.Ieee.Back.{round-whole}
 use lib.Ieee.Scale.{round-same}
 use Rattle.f64_helpers.specs.F64.{zero as zeroᶠ}
-use Rattle.f64_helpers.specs.Helpers.{larger, negative}
+use Rattle.f64_helpers.specs.Helpers.{max, negative}
 use Rattle.f64_helpers.specs.Seconds.{Whole, seconds, NotNegative, seconds-up}
 
 pub zero-whole : Whole zeroᶠ 0
@@ -170,14 +170,14 @@ not-nan nan n v = absurd v
 not-nan (inf s) n v = absurd v
 not-nan (fin s m e) n v = refl
 
-pub larger-whole : (x y : Float) (a b : ℕ) → Whole x a → Whole y b → Whole (larger x y) (max a b)
-unfolding larger
-larger-whole x y a b v w =
+pub max-whole : (x y : Float) (a b : ℕ) → Whole x a → Whole y b → Whole (max x y) (maxℕ a b)
+unfolding max
+max-whole x y a b v w =
     rw (not-nan x a v, lt-whole x y a b v w, eq-whole x zeroᶠ a 0 v zero-whole, eq-whole y zeroᶠ b 0 w zero-whole)
     (go (ltb a b) (ltb→lt a b) (nltb→le a b) (eqb a 0) (eqb b 0) (eqb→eq a 0) (eqb→eq b 0))
   where
     go : (q : Bool) → (T q → a < b) → (T (not q) → b ≤ a) → (p r : Bool) → (T p → a ≡ 0) → (T r → b ≡ 0)
-        → Whole (cond q y (cond (p && r) (fin (negative x && negative y) 0 (pos 0)) x)) (max a b)
+        → Whole (cond q y (cond (p && r) (fin (negative x && negative y) 0 (pos 0)) x)) (maxℕ a b)
     go true h k p r f g = subst (Whole y) (sym (max-eq-right (le-of-lt (h tt)))) w
     go false h k true true f g = subst (Whole (fin (negative x && negative y) 0 (pos 0))) (sym (max-eq-left (k tt) ∙ f tt)) (refl, λ q. refl)
     go false h k true false f g = subst (Whole x) (sym (max-eq-left (k tt))) v

@@ -11,7 +11,7 @@ use lib.Ieee.Fits.{down-pos, eq→eqb}
 use lib.Ieee.Exact.{HasValue}
 use Rattle.f64_helpers.specs.F64.{_⊖_, zero}
 use Rattle.f64_helpers.specs.Helpers.{floor, quotient-down, quotient-up, is-whole}
-use Rattle.f64_helpers.proofs.Facts.{ceil-same}
+use Rattle.f64_helpers.proofs.Floors.{ceil-same}
 use Rattle.f64_helpers.proofs.Meaning.{floor-exact, ceil-exact}
 use Rattle.f64_helpers.proofs.Quotients.{round-zero}
 use Rattle.f64_helpers.proofs.WholeSeconds.{same-test}

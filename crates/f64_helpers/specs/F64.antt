@@ -1,12 +1,16 @@
 -- The notation in which every definition of this repository writes f64 arithmetic.
 -- Each operation is that of IEEE 754's binary64, rounded once, to the nearest value, ties to even: what Rust's operators on f64 do.
--- A value is `nan`, `inf s`, or `fin s m e`: the number m * 2 ^ e, negative where s is true. There is one `nan`: no definition speaks of a NaN's bits.
+-- A value is `nan`, `inf s`, or `fin s m e`: the number m * 2 ^ e, negative where s is true.
+-- There is one `nan`: no definition speaks of a NaN's bits.
 use Prim.Native.Nat.{ℕ}
 use mathlib.Core.Bool.{Bool, false, cond}
 use lib.IntN.{pos}
 use lib.Ieee.{Float, fin, binary64, round, add, sub, mul, div, lt, le}
 
--- They group as Rust's operators do: ⊗ and ⊘ before ⊕ and ⊖, each from the left, and comparisons last. An `else` part reaches to the end.
+-- Among themselves they group as Rust's operators do: ⊗ and ⊘ before ⊕ and ⊖, each from the left, and then the comparisons.
+-- A function takes its arguments before any operator: `floor x ⊘ y` is `(floor x) ⊘ y`. Of two Bools, && comes before ||.
+-- Both bind tighter than what stands here, unlike Rust's, so a comparison beside them is in brackets.
+-- Last is `if`: its `else` part reaches to the end.
 infixl 6 _⊕_ _⊖_
 infixl 7 _⊗_ _⊘_
 infix 4 _<ᶠ_ _>ᶠ_ _≤ᶠ_ _≥ᶠ_

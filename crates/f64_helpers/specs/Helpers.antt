@@ -7,7 +7,8 @@ use lib.Dec.{eqb}
 use lib.Ieee.{Float, nan, inf, fin, binary64, up, down, round, isNan, eq, toSigned, ofInt}
 use Rattle.f64_helpers.specs.F64.{_<ᶠ_, _>ᶠ_, zero, if_then_else_}
 
--- The whole number n with the sign s, as an f64; a 0 keeps the sign. What the definitions below hand to it is an f64 exactly: nothing is rounded.
+-- The whole number n with the sign s, as an f64; a 0 keeps the sign.
+-- What the definitions below hand to it is an f64 exactly: nothing is rounded.
 abbrev pub whole : Bool → ℕ → Float
 whole s n = round binary64 s n 1
 
@@ -32,7 +33,7 @@ ceil (inf s) = inf s
 ceil (fin false m e) = whole false (quotient-up (m * up e) (down e))
 ceil (fin true m e) = whole true (quotient-down (m * up e) (down e))
 
--- Rust's `x.abs()`: x with its sign bit clear
+-- Rust's `x.abs()`: x with its sign bit clear, and NaN for NaN
 unfoldable pub abs : Float → Float
 abs nan = nan
 abs (inf s) = inf false
@@ -48,16 +49,16 @@ abbrev pub both-zero : Float → Float → Bool
 both-zero x y = eq x zero && eq y zero
 
 -- Rust's `x.max(y)`. Of a NaN and a number the number is taken, of two NaNs NaN. Of two zeros it is -0.0 only if both are.
-unfoldable pub larger : Float → Float → Float
-larger x y =
+unfoldable pub max : Float → Float → Float
+max x y =
     if isNan x then y
     else if x <ᶠ y then y
     else if both-zero x y then fin (negative x && negative y) 0 (pos 0)
     else x
 
 -- Rust's `x.min(y)`. Of two zeros it is -0.0 if either is.
-unfoldable pub smaller : Float → Float → Float
-smaller x y =
+unfoldable pub min : Float → Float → Float
+min x y =
     if isNan x then y
     else if x >ᶠ y then y
     else if both-zero x y then fin (negative x || negative y) 0 (pos 0)

@@ -26,7 +26,8 @@ NotNegative nan = ⊥
 NotNegative (inf s) = ⊥
 NotNegative (fin s m e) = T s → m ≡ 0
 
--- the least whole number that is not below x
+-- Of a finite x of 0 or more, as the laws ask: the least whole number that is not below x.
+-- The sign is not looked at: of an x below 0 it is that of -x.
 abbrev pub seconds-up : Float → ℕ
 seconds-up nan = 0
 seconds-up (inf s) = 0

@@ -1,4 +1,4 @@
-// The f64 functions that the published Rust takes from its standard library, for every f64: NaN, infinities, zeros of either sign, subnormals. Beside them two that do two of its steps in one (`max_zero`, `floor_as_i64`), the test for a whole number, and the choice between two values.
+// The f64 functions that the published Rust takes from its standard library, for every f64: NaN, infinities, zeros of either sign, subnormals. Beside them its `x.max(0.0)` by one comparison (`max_zero`), two of its steps in one (`floor_as_i64`), the test for a whole number, and the choice between two values.
 ghost use mathlib.Core.Path.{_≡_};
 ghost use lib.Dec.{T};
 ghost use Rattle.f64_helpers.specs.F64.{_<ᶠ_, zero, if_then_else_};
@@ -54,7 +54,7 @@ pub fn ceil(x: f64) -> f64
     -floor(-x)
 }
 
-// `x.abs()`.
+// `x.abs()`. A NaN comes back as it came, with its sign; the contract knows one NaN, and speaks of no bits of it.
 pub fn abs(x: f64) -> f64
     ensures { λ r. ⌜ r ≡ Helpers.abs x ⌝ }
 {
@@ -71,7 +71,7 @@ pub fn abs(x: f64) -> f64
 
 // `a.max(b)`. The sum of two zeros is -0.0 only if both are.
 pub fn max(a: f64, b: f64) -> f64
-    ensures { λ r. ⌜ r ≡ Helpers.larger a b ⌝ }
+    ensures { λ r. ⌜ r ≡ Helpers.max a b ⌝ }
 {
     if a != a {
         b
@@ -84,16 +84,16 @@ pub fn max(a: f64, b: f64) -> f64
     }
 }
 
-// `x.max(0.0)`, by one comparison: a NaN and a zero of either sign give 0.0.
+// `x.max(0.0)`, by one comparison: what is above 0 comes back, and all else gives 0.0, a zero of either sign and a NaN too.
 pub fn max_zero(x: f64) -> f64
-    ensures { λ r. ⌜ r ≡ Helpers.larger x zero ⌝ }
+    ensures { λ r. ⌜ r ≡ Helpers.max x zero ⌝ }
 {
     if x > 0.0 { x } else { 0.0 }
 }
 
 // `a.min(b)`.
 pub fn min(a: f64, b: f64) -> f64
-    ensures { λ r. ⌜ r ≡ Helpers.smaller a b ⌝ }
+    ensures { λ r. ⌜ r ≡ Helpers.min a b ⌝ }
 {
     -max(-a, -b)
 }

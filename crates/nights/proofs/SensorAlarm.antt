@@ -14,7 +14,7 @@ use Rattle.f64_helpers.proofs.WholeSeconds.{Reach}
 use Rattle.cooling_only_controller_timing.specs.History.{true-delay-after}
 use Rattle.cooling_only_controller_timing.specs.declared.TrueDelayState.{TrueDelayState}
 use Rattle.cooling_only_controller_timing.proofs.TrueDelayLaw.{held-is-output, whole-reached}
-use Rattle.cooling_only_controller_airflow.specs.Airflow.{alarms, sensor-leak-alarms}
+use Rattle.cooling_only_controller_airflow.specs.Airflow.{alarms}
 use Rattle.cooling_only_controller.specs.Controller.{controller-output}
 use Rattle.air_box.specs.AirBox.{delay-on-init, accepted-tick}
 use Rattle.air_box.specs.Demand2.{controller-step-of}
@@ -49,12 +49,12 @@ abbrev pub sensor-delay-after : Start → List Tick → TrueDelayState
 sensor-delay-after start h = true-delay-after (decimal 600 1) (delay-on-init start) (samples high-fan-off h)
 
 flow-high-kept : (start : Start) (h : List Tick) → grown start h .state .alarms .«flow_high» ≡ high-after H h
-unfolding accepted-tick controller-output alarms sensor-leak-alarms
+unfolding accepted-tick controller-output alarms
 flow-high-kept start [] = refl
 flow-high-kept start (k ∷ h) = rw (flow-high-kept start h)
 
 sensor-delay-kept : (start : Start) (h : List Tick) → grown start h .state .alarms .«sensor_delay» ≡ sensor-delay-after start h
-unfolding accepted-tick controller-output alarms sensor-leak-alarms
+unfolding accepted-tick controller-output alarms
 sensor-delay-kept start [] = refl
 sensor-delay-kept start (k ∷ h) = rw (sensor-delay-kept start h, flow-high-kept start h, grown-start start h)
 
@@ -63,7 +63,7 @@ abbrev alarm-at : Start → List Tick → Tick → ℤ
 alarm-at start h k = controller-step-of (grown start h) k .output .«airflow_sensor_alarm»
 
 alarm-by-memories : (start : Start) (h : List Tick) (k : Tick) → alarm-at start h k ≡ (if sensor-delay-after start (k ∷ h) .held && (mode k ==ᶻ 1) then pos 3 else pos 0)
-unfolding controller-output alarms sensor-leak-alarms
+unfolding controller-output alarms
 alarm-by-memories start h k = rw (held-is-output, sensor-delay-kept start h, flow-high-kept start h, grown-start start h)
 
 three-if : (b : Bool) → ((if b then pos 3 else pos 0) ≡ pos 3) ↔ T b

@@ -7,15 +7,24 @@ use Rattle.cdl_recurrences.proofs.true_delay_output.Tie as tie
 
 returns : tie.Need-returns
 unfolding true-delay-output ofBits
-returns c = rw (c .before .before .before .before .if1 .taken, c .before .enum-told .given .1, ← c .before .before .before .max-zero .ensures, c .if2 .taken)
+returns c =
+    let at-absent = c .before in
+    let at-delay = at-absent .before .before in
+    rw (at-delay .before .if1 .taken, at-absent .enum-told .given .1, ← at-delay .max-zero .ensures, c .if2 .taken)
 
 returns-2 : tie.Need-returns-2
 unfolding true-delay-output ofBits
-returns-2 c = rw (c .before .before .before .before .if1 .taken, c .before .enum-told .given .1, ← c .before .before .before .max-zero .ensures, c .if2 .left)
+returns-2 c =
+    let at-absent = c .before in
+    let at-delay = at-absent .before .before in
+    rw (at-delay .before .if1 .taken, at-absent .enum-told .given .1, ← at-delay .max-zero .ensures, c .if2 .left)
 
 returns-3 : tie.Need-returns-3
 unfolding true-delay-output ofBits
-returns-3 c = rw (c .true-delay-running .ensures, c .before .before .before .before .before .if1 .taken, c .before .before .prev-time .given .1, c .before .before .before .before .max-zero .ensures)
+returns-3 c =
+    let at-time = c .before .before in
+    let at-delay = at-time .before .before in
+    rw (c .true-delay-running .ensures, at-delay .before .if1 .taken, at-time .prev-time .given .1, at-delay .max-zero .ensures)
 
 returns-4 : tie.Need-returns-4
 unfolding true-delay-output ofBits

@@ -1,6 +1,7 @@
 -- `f64_helpers::abs` meets its contract. Assumes nothing.
 use lib.Ieee.{ofBits}
-use Rattle.f64_helpers.proofs.Facts.{yes, no, abs-above, abs-below, abs-nan, abs-rest}
+use Rattle.f64_helpers.proofs.Tests.{yes, no}
+use Rattle.f64_helpers.proofs.AbsoluteValue.{abs-above, abs-below, abs-nan, abs-rest}
 use Rattle.f64_helpers.proofs.abs.Statement.{statement}
 use Rattle.f64_helpers.proofs.abs.Tie as tie
 

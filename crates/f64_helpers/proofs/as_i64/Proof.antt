@@ -1,7 +1,8 @@
 -- `f64_helpers::as_i64` meets its contract. Assumes nothing.
 use borrow.Author.Needs.{needs}
 use lib.Ieee.{ofBits, neg}
-use Rattle.f64_helpers.proofs.Facts.{yes, no, signed-high, signed-low, signed-nan}
+use Rattle.f64_helpers.proofs.Tests.{yes, no}
+use Rattle.f64_helpers.proofs.Casts.{signed-high, signed-low, signed-nan}
 use Rattle.f64_helpers.proofs.as_i64.Statement.{statement}
 use Rattle.f64_helpers.proofs.as_i64.Tie as tie
 

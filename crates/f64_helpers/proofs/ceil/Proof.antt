@@ -2,7 +2,7 @@
 use borrow.Author.Needs.{needs}
 use mathlib.Core.Path.{ap, _∙_}
 use lib.Ieee.{neg}
-use Rattle.f64_helpers.proofs.Facts.{neg-floor}
+use Rattle.f64_helpers.proofs.Negation.{neg-floor}
 use Rattle.f64_helpers.proofs.ceil.Statement.{statement}
 use Rattle.f64_helpers.proofs.ceil.Tie as tie
 

@@ -8,7 +8,9 @@ use mir.Syntax.{w64}
 use mir.Val.{Fits}
 use lib.Dec.{T}
 use lib.Ieee.{Float, ofBits, lt}
-use Rattle.f64_helpers.proofs.Facts.{yes, no, ceil-small-more, ceil-small-same, ceil-large, count-small, above-minus-one, below-2-64}
+use Rattle.f64_helpers.proofs.Tests.{yes, no}
+use Rattle.f64_helpers.proofs.Floors.{ceil-small-more, ceil-small-same, ceil-large}
+use Rattle.f64_helpers.proofs.Casts.{count-small, above-minus-one, below-2-64}
 use Rattle.f64_helpers.proofs.ceil_of_positive.Statement.{statement}
 use Rattle.f64_helpers.proofs.ceil_of_positive.Tie as tie
 
@@ -23,10 +25,12 @@ truncating-f64-to-u64-requires c κs = (above-minus-one (c .before .args .x) (c 
 add-nearest-u64-to-f64 : tie.Need-add-nearest-u64-to-f64
 unfolding ofBits
 add-nearest-u64-to-f64 c =
-    let s = c .before .before .before .before in
-    room (c .before .before .truncating-f64-to-u64 .result)
-    (subst (λ (n : ℕ). n < 4503599627370496) (sym (c .before .before .truncating-f64-to-u64 .ensures))
-    (count-small (s .args .x) (s .pre) (yes (c .before .before .before .if1 .taken))))
+    let at-part = c .before .before in
+    let at-test = at-part .before in
+    let s = at-test .before in
+    room (at-part .truncating-f64-to-u64 .result)
+    (subst (λ (n : ℕ). n < 4503599627370496) (sym (at-part .truncating-f64-to-u64 .ensures))
+    (count-small (s .args .x) (s .pre) (yes (at-test .if1 .taken))))
 
 returns : tie.Need-returns
 unfolding ofBits

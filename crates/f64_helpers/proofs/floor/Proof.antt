@@ -2,7 +2,9 @@
 use borrow.Author.Needs.{needs}
 use mathlib.Core.Path.{sym, ap, _∙_}
 use lib.Ieee.{ofBits, neg}
-use Rattle.f64_helpers.proofs.Facts.{yes, no, neg-above, neg-ceil, floor-rest}
+use Rattle.f64_helpers.proofs.Tests.{yes, no}
+use Rattle.f64_helpers.proofs.Negation.{neg-above, neg-ceil}
+use Rattle.f64_helpers.proofs.Floors.{floor-rest}
 use Rattle.f64_helpers.proofs.floor.Statement.{statement}
 use Rattle.f64_helpers.proofs.floor.Tie as tie
 

@@ -11,7 +11,9 @@ use mir.Syntax.{w64}
 use mir.Val.{toZ, SFits}
 use mir.Facts.{toZ-ofZ}
 use Rattle.f64_helpers.specs.Helpers.{floor, as-i64}
-use Rattle.f64_helpers.proofs.Facts.{yes, floor-small, count-small, above-minus-one, below-2-64}
+use Rattle.f64_helpers.proofs.Tests.{yes}
+use Rattle.f64_helpers.proofs.Floors.{floor-small}
+use Rattle.f64_helpers.proofs.Casts.{count-small, above-minus-one, below-2-64}
 use Rattle.f64_helpers.proofs.floor_as_i64.Statement.{statement}
 use Rattle.f64_helpers.proofs.floor_as_i64.Tie as tie
 

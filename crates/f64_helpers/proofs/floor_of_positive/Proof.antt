@@ -4,7 +4,9 @@ use mathlib.Core.Path.{sym, ap, _∙_}
 use Prim.Native.Nat.{ℕ}
 use lib.IntN.{pos}
 use lib.Ieee.{binary64, ofBits, ofInt}
-use Rattle.f64_helpers.proofs.Facts.{yes, no, floor-small, floor-large, above-minus-one, below-2-64}
+use Rattle.f64_helpers.proofs.Tests.{yes, no}
+use Rattle.f64_helpers.proofs.Floors.{floor-small, floor-large}
+use Rattle.f64_helpers.proofs.Casts.{above-minus-one, below-2-64}
 use Rattle.f64_helpers.proofs.floor_of_positive.Statement.{statement}
 use Rattle.f64_helpers.proofs.floor_of_positive.Tie as tie
 

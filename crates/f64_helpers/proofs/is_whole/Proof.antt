@@ -1,6 +1,6 @@
 -- `f64_helpers::is_whole` meets its contract. Assumes nothing.
 use lib.Ieee.{ofBits}
-use Rattle.f64_helpers.proofs.Facts.{yes}
+use Rattle.f64_helpers.proofs.Tests.{yes}
 use Rattle.f64_helpers.proofs.WholeTest.{whole-test}
 use borrow.Author.Needs.{needs}
 use Rattle.f64_helpers.proofs.is_whole.Statement.{statement}

@@ -5,8 +5,9 @@ use lib.IntN.{pos}
 use lib.Dec.{T, not-T}
 use lib.Ieee.{Float, fin, ofBits, lt, eq, le, isNan}
 use Rattle.f64_helpers.specs.F64.{zero}
-use Rattle.f64_helpers.specs.Helpers.{larger, negative}
-use Rattle.f64_helpers.proofs.Facts.{yes, no, larger-by-tests}
+use Rattle.f64_helpers.specs.Helpers.{max, negative}
+use Rattle.f64_helpers.proofs.Tests.{yes, no}
+use Rattle.f64_helpers.proofs.LargerOfTwo.{max-by-tests}
 use Rattle.f64_helpers.proofs.Order.{le-numbers, lt→le, eq→le, not-both, lt-is-not-le}
 use Rattle.f64_helpers.proofs.max_zero.Statement.{statement}
 use Rattle.f64_helpers.proofs.max_zero.Tie as tie
@@ -16,9 +17,9 @@ off false h = refl
 off true h = absurd h
 
 -- above 0 the number is the larger
-above : (x : Float) → T (lt zero x) → x ≡ larger x zero
+above : (x : Float) → T (lt zero x) → x ≡ max x zero
 above x h =
-    larger-by-tests x zero false false false (eq zero zero) (off (isNan x) (le-numbers zero x (lt→le zero x h) .1))
+    max-by-tests x zero false false false (eq zero zero) (off (isNan x) (le-numbers zero x (lt→le zero x h) .1))
     (off (lt x zero) (not-T (lt x zero) (λ l. not-both zero x h (lt→le x zero l)))) (off (eq x zero) (not-T (eq x zero) (λ l. not-both zero x h (eq→le x zero l)))) refl
 
 and-false : (b : Bool) → (b && false) ≡ false
@@ -26,14 +27,14 @@ and-false true = refl
 and-false false = refl
 
 -- else 0 is: a zero of either sign gives +0.0, and so does a NaN
-not-above : (x : Float) → T (not (lt zero x)) → zero ≡ larger x zero
+not-above : (x : Float) → T (not (lt zero x)) → zero ≡ max x zero
 unfolding eq le isNan
 not-above x h = by (isNan x) (lt x zero) (eq x zero) refl refl refl
   where
-    by : (n l a : Bool) → isNan x ≡ n → lt x zero ≡ l → eq x zero ≡ a → zero ≡ larger x zero
-    by true l a N L A = larger-by-tests x zero true l a (eq zero zero) N L A refl
-    by false true a N L A = larger-by-tests x zero false true a (eq zero zero) N L A refl
-    by false false true N L A = ap (λ (s : Bool). fin s 0 (pos 0)) (sym (and-false (negative x))) ∙ larger-by-tests x zero false false true true N L A refl
+    by : (n l a : Bool) → isNan x ≡ n → lt x zero ≡ l → eq x zero ≡ a → zero ≡ max x zero
+    by true l a N L A = max-by-tests x zero true l a (eq zero zero) N L A refl
+    by false true a N L A = max-by-tests x zero false true a (eq zero zero) N L A refl
+    by false false true N L A = ap (λ (s : Bool). fin s 0 (pos 0)) (sym (and-false (negative x))) ∙ max-by-tests x zero false false true true N L A refl
     by false false false N L A = absurd (subst T (λ i. not (not (L i || A i))) (subst (λ (b : Bool). T (not b)) (lt-is-not-le zero x tt (no N)) h))
 
 returns : tie.Need-returns

@@ -8,7 +8,7 @@ use mir.Facts.{toZ-ofZ}
 use Rattle.cdl_recurrences.specs.CdlRecurrences.{sampler-output}
 use Rattle.f64_helpers.specs.F64.{if_then_else_}
 use Rattle.cooling_only_controller_timing.specs.declared.SamplerState.{SamplerState}
-use Rattle.cooling_only_controller_timing.specs.Timing.{sampler-sample, sampler-after-sample}
+use Rattle.cooling_only_controller_timing.specs.Timing.{sampler-sample}
 use borrow.Author.Needs.{needs}
 use Rattle.cooling_only_controller_timing.proofs.SamplerState.sample.Statement.{statement}
 use Rattle.cooling_only_controller_timing.proofs.SamplerState.sample.Tie as tie
@@ -21,20 +21,22 @@ by-due s input index true = refl
 by-due s input index false = refl
 
 returns : tie.Need-returns
-unfolding sampler-sample sampler-after-sample sampler-output
+unfolding sampler-sample sampler-output
 returns c =
-    let d = c .before .before .before .before in
+    let at-index = c .before in
+    let at-told = at-index .before .before in
+    let d = at-told .before in
     let a = d .before .before .before .args in
     let next = d .sample-due .result in
     let last = toZ-ofZ {w = w64} {z = a .self .«last_index»} (record { sfits = d .before .struct-told .given .1 .1 .0 .1 }) in
-    let index = toZ-ofZ {w = w64} {z = next .index} (record { sfits = c .before .before .before .struct-told2 .given .1 .0 .1 }) in
-    let kept = toZ-ofZ {w = w64} {z = c .before .last-sample-index .result} (record { sfits = c .before .last-sample-index .ok }) in
+    let index = toZ-ofZ {w = w64} {z = next .index} (record { sfits = at-told .struct-told2 .given .1 .0 .1 }) in
+    let kept = toZ-ofZ {w = w64} {z = at-index .last-sample-index .result} (record { sfits = at-index .last-sample-index .ok }) in
     let due = rw last at (d .sample-due .ensures) in
-    let is = rw (index, last) at (c .before .last-sample-index .ensures) in
+    let is = rw (index, last) at (at-index .last-sample-index .ensures) in
     rw (kept, is, c .choose .ensures, d .before .before .if1 .taken, ← due, by-due (a .self) (a .input) (next .index) (next .due))
 
 returns-2 : tie.Need-returns-2
-unfolding sampler-sample sampler-after-sample sampler-output
+unfolding sampler-sample sampler-output
 returns-2 c = rw (c .sampler-first-sample .ensures, c .before .if1 .left)
 
 pub sample-spec : {M : Type 1} → statement M

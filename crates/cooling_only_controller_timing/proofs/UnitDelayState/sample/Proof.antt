@@ -25,14 +25,16 @@ by-due s input index false = refl
 returns : tie.Need-returns
 unfolding unit-delay-sample
 returns c =
-    let d = c .before .before .before .before .before in
+    let at-index = c .before .before in
+    let at-told = at-index .before .before in
+    let d = at-told .before in
     let a = d .before .before .before .args in
     let next = d .sample-due .result in
     let last = toZ-ofZ {w = w64} {z = a .self .«last_index»} (record { sfits = d .before .struct-told .given .1 .1 .0 .1 }) in
-    let index = toZ-ofZ {w = w64} {z = next .index} (record { sfits = c .before .before .before .before .struct-told2 .given .1 .0 .1 }) in
-    let kept = toZ-ofZ {w = w64} {z = c .before .before .last-sample-index .result} (record { sfits = c .before .before .last-sample-index .ok }) in
+    let index = toZ-ofZ {w = w64} {z = next .index} (record { sfits = at-told .struct-told2 .given .1 .0 .1 }) in
+    let kept = toZ-ofZ {w = w64} {z = at-index .last-sample-index .result} (record { sfits = at-index .last-sample-index .ok }) in
     let due = rw last at (d .sample-due .ensures) in
-    let is = rw (index, last) at (c .before .before .last-sample-index .ensures) in
+    let is = rw (index, last) at (at-index .last-sample-index .ensures) in
     rw (kept, is, c .choose2 .ensures, c .before .choose .ensures, d .before .before .if1 .taken, ← due, by-due (a .self) (a .input) (next .index) (next .due))
 
 returns-2 : tie.Need-returns-2
