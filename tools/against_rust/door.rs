@@ -45,6 +45,15 @@ impl crate::Controller for ControllerState {
             ],
         }
     }
+
+    fn paths(&self) -> Vec<String> {
+        let places = crate::fields::places::<ControllerState>();
+        places.into_iter().map(|place| place.path).collect()
+    }
+
+    fn values(&self, values: &mut Vec<crate::fields::Value>) {
+        crate::fields::Fields::values(self, values)
+    }
 }
 
 pub(super) fn fresh() -> Box<dyn crate::Controller> {
