@@ -12,6 +12,29 @@ pub struct Answer {
     pub integers: [i64; 5],
 }
 
+/// The readings of a tick as the published record or as the port's, which have the same names.
+macro_rules! input_of {
+    ($record:ident, $tick:expr) => {
+        $record {
+            zone_temperature: $tick.zone,
+            cooling_setpoint: $tick.cooling,
+            heating_setpoint: $tick.heating,
+            window_status: ($tick.status & 1 != 0).into(),
+            occupancy_status: ($tick.status & 2 != 0).into(),
+            operating_mode: $tick.mode,
+            co2_setpoint: $tick.co2_setpoint,
+            co2_concentration: $tick.co2,
+            discharge_air_temperature: $tick.discharge,
+            supply_air_temperature: $tick.supply,
+            discharge_airflow: $tick.flow,
+            airflow_override_index: $tick.airflow,
+            damper_override_index: $tick.damper,
+            supply_fan_status: ($tick.status & 4 != 0).into(),
+        }
+    };
+}
+pub(crate) use input_of;
+
 /// A published controller with its state, plain or quiet.
 pub trait Controller {
     fn answer(&mut self, tick: &Tick) -> Answer;

@@ -3,7 +3,7 @@
 
 use std::mem::offset_of;
 
-use crate::answer::Answer;
+use crate::answer::{Answer, input_of};
 use crate::fields::{Fields, Place, Value, fields_of};
 use crate::tick::Tick;
 
@@ -64,24 +64,5 @@ impl AirBox {
 }
 
 pub fn port_tick(tick: &Tick) -> AirBoxTick {
-    let flag = |bit| u8::from(tick.status & bit != 0);
-    AirBoxTick {
-        t: tick.t,
-        input: AirBoxInput {
-            zone_temperature: tick.zone,
-            cooling_setpoint: tick.cooling,
-            heating_setpoint: tick.heating,
-            window_status: flag(1),
-            occupancy_status: flag(2),
-            operating_mode: tick.mode,
-            co2_setpoint: tick.co2_setpoint,
-            co2_concentration: tick.co2,
-            discharge_air_temperature: tick.discharge,
-            supply_air_temperature: tick.supply,
-            discharge_airflow: tick.flow,
-            airflow_override_index: tick.airflow,
-            damper_override_index: tick.damper,
-            supply_fan_status: flag(4),
-        },
-    }
+    AirBoxTick { t: tick.t, input: input_of!(AirBoxInput, tick) }
 }
