@@ -9,11 +9,11 @@ mod libm {
     }
 }
 
-impl crate::Controller for ControllerState {
-    fn answer(&mut self, tick: &crate::tick::Tick) -> crate::Answer {
+impl crate::answer::Controller for ControllerState {
+    fn answer(&mut self, tick: &crate::tick::Tick) -> crate::answer::Answer {
         let input = crate::answer::input_of!(ControllerInput, tick);
         let output = self.output(tick.t, input);
-        crate::Answer {
+        crate::answer::Answer {
             floats: [
                 output.airflow_setpoint,
                 output.damper_command,
@@ -41,6 +41,6 @@ impl crate::Controller for ControllerState {
     }
 }
 
-pub(super) fn fresh() -> Box<dyn crate::Controller> {
+pub(super) fn fresh() -> Box<dyn crate::answer::Controller> {
     Box::new(ControllerState::default())
 }

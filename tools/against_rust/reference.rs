@@ -7,7 +7,7 @@ mod fields;
 mod stubs;
 mod tick;
 
-use answer::{AirBox, Answer, Controller};
+use answer::{AirBox, Answer};
 use tick::Tick;
 
 // Written by the build: `mod oracle`, `mod plain` and `mod quiet` around the published files.

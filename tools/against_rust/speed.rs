@@ -9,7 +9,7 @@ mod port;
 mod stubs;
 mod tick;
 
-use answer::{Answer, Controller};
+use answer::Answer;
 use port::AirBoxTick;
 use tick::Tick;
 

@@ -1,16 +1,16 @@
-//! `states TICKS`: lets the port's archive and the published Rust take so many lines of standard input, and compares every field of the two boxes
+//! `states LINES`: lets the port's archive and the published Rust take so many lines of standard input, and compares every field of the two boxes
 //! after each. A refused tick is compared as well: both give its number, and no field moves.
 
-use std::io;
 use std::process::ExitCode;
 
 mod answer;
+mod drive;
 mod fields;
 mod port;
 mod stubs;
 mod tick;
 
-use answer::{AirBox, Answer, Controller};
+use answer::{AirBox, Answer};
 use fields::{Fields, Pairs, Place, Value};
 use tick::Tick;
 
@@ -57,9 +57,8 @@ impl Both {
         Some(format!("{path} differs\n  port      {port}\n  reference {rust}"))
     }
 
-    /// One line through both, and what differs before or after it.
-    fn take(&mut self, line: &[u8]) -> Option<String> {
-        let tick = Tick::read(line)?;
+    /// One tick through both, and what differs before or after it.
+    fn take(&mut self, tick: &Tick) -> Option<String> {
         if tick.start != 0 {
             self.rust.start(tick.start);
             self.port = port::AirBox::fresh(tick.start == 2);
@@ -71,8 +70,8 @@ impl Both {
             }
         }
         let mut output = Answer { floats: [0.0; 5], integers: [0; 5] };
-        let number = usize::from(self.port.tick(&port::port_tick(&tick), &mut output));
-        let refusal = self.rust.tick(&tick).err().unwrap_or(0);
+        let number = usize::from(self.port.tick(&port::port_tick(tick), &mut output));
+        let refusal = self.rust.tick(tick).err().unwrap_or(0);
         if number != refusal {
             return Some(format!("the numbers differ\n  port      {number}\n  reference {refusal}"));
         }
@@ -114,20 +113,12 @@ impl Both {
     }
 }
 
-fn run(ticks: u64) -> Result<String, String> {
+fn run(lines: u64) -> Result<String, String> {
     let mut both = Both::new()?;
-    let mut lines = 0;
-    let read = tick::each_line(|line| {
-        lines += 1;
-        match both.take(line) {
-            None => Ok(()),
-            Some(text) => Err(io::Error::other(format!("line {lines}: {text}\n  input     {}", String::from_utf8_lossy(line)))),
-        }
-    });
-    read.map_err(|e| e.to_string())?;
+    drive::each_tick(lines, |tick| both.take(tick))?;
     let [plain, quiet] = both.accepted;
-    if lines != ticks || plain == 0 || quiet == 0 {
-        return Err(format!("{lines} lines of {ticks}, accepted {plain} plain and {quiet} quiet: too few to compare"));
+    if plain == 0 || quiet == 0 {
+        return Err(format!("accepted {plain} plain and {quiet} quiet: too few to compare"));
     }
     both.flip_every_bit()?;
     println!("accepted {plain} plain, {quiet} quiet; each bit of each field of the last box, flipped, is told by the field's path");
@@ -135,18 +126,5 @@ fn run(ticks: u64) -> Result<String, String> {
 }
 
 fn main() -> ExitCode {
-    let Some(ticks) = std::env::args().nth(1).and_then(|word| word.parse().ok()) else {
-        eprintln!("usage: states TICKS");
-        return ExitCode::from(2);
-    };
-    match run(ticks) {
-        Ok(text) => {
-            println!("{text}");
-            ExitCode::SUCCESS
-        }
-        Err(text) => {
-            println!("{text}");
-            ExitCode::FAILURE
-        }
-    }
+    drive::program(run)
 }
