@@ -12,6 +12,15 @@ pub struct Answer {
     pub integers: [i64; 5],
 }
 
+impl Answer {
+    /// The outputs by their bits.
+    pub fn bits(&self) -> [Value; 10] {
+        let [a, b, c, d, e] = self.floats.map(|x| Value::Float(x.to_bits()));
+        let [f, g, h, i, j] = self.integers.map(Value::Whole);
+        [a, b, c, d, e, f, g, h, i, j]
+    }
+}
+
 /// The readings of a tick as the published record or as the port's, which have the same names.
 macro_rules! input_of {
     ($record:ident, $tick:expr) => {

@@ -54,8 +54,7 @@ impl Sides {
             let answer = side.air_box.tick(tick).ok()?;
             side.values.clear();
             side.air_box.values(&mut side.values);
-            side.values.extend(answer.floats.map(|x| Value::Float(x.to_bits())));
-            side.values.extend(answer.integers.map(Value::Whole));
+            side.values.extend(answer.bits());
         }
         self.accepted[usize::from(self.sides[0].air_box.quiet)] += 1;
         let bits = |t: f64| t.to_bits();

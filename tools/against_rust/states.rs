@@ -82,13 +82,14 @@ impl Both {
     /// Flips each bit of each field of the port's record in turn. The field, and it alone, has to be told by its path; but the bits of the
     /// number beside an absent time tell nothing.
     fn flip_every_bit(&mut self) -> Result<(), String> {
-        for place in fields::places::<port::AirBox>() {
-            let here = rust_path(&place);
+        let before = self.port_values.clone();
+        for (place, value) in fields::places::<port::AirBox>().iter().zip(before) {
+            let here = rust_path(place);
             for (index, byte) in place.bytes.iter().enumerate() {
+                let silent = value == Value::time(None) && index > 0;
+                let expected = if silent { vec![] } else { vec![here.clone()] };
                 for bit in 0..8 {
-                    let silent = index > 0 && self.absent(place.bytes[0], place.bytes.len());
                     let told = self.told_after_flip(*byte, bit);
-                    let expected = if silent { vec![] } else { vec![here.clone()] };
                     if told != expected {
                         return Err(format!("bit {bit} of byte {byte} lies in {here}, and a flip was told as {told:?}"));
                     }
@@ -96,11 +97,6 @@ impl Both {
             }
         }
         Ok(())
-    }
-
-    /// Whether a field of so many bytes is a time that is absent.
-    fn absent(&self, at: usize, bytes: usize) -> bool {
-        bytes == 9 && unsafe { *(&raw const self.port).cast::<u8>().add(at) == 0 }
     }
 
     fn told_after_flip(&mut self, byte: usize, bit: u32) -> Vec<String> {
