@@ -9,26 +9,11 @@ mod libm {
     }
 }
 
-impl crate::Controller for ControllerState {
-    fn answer(&mut self, tick: &crate::tick::Tick) -> crate::Answer {
-        let input = ControllerInput {
-            zone_temperature: tick.zone,
-            cooling_setpoint: tick.cooling,
-            heating_setpoint: tick.heating,
-            window_status: tick.status & 1 != 0,
-            occupancy_status: tick.status & 2 != 0,
-            operating_mode: tick.mode,
-            co2_setpoint: tick.co2_setpoint,
-            co2_concentration: tick.co2,
-            discharge_air_temperature: tick.discharge,
-            supply_air_temperature: tick.supply,
-            discharge_airflow: tick.flow,
-            airflow_override_index: tick.airflow,
-            damper_override_index: tick.damper,
-            supply_fan_status: tick.status & 4 != 0,
-        };
+impl crate::answer::Controller for ControllerState {
+    fn answer(&mut self, tick: &crate::tick::Tick) -> crate::answer::Answer {
+        let input = crate::answer::input_of!(ControllerInput, tick);
         let output = self.output(tick.t, input);
-        crate::Answer {
+        crate::answer::Answer {
             floats: [
                 output.airflow_setpoint,
                 output.damper_command,
@@ -45,8 +30,17 @@ impl crate::Controller for ControllerState {
             ],
         }
     }
+
+    fn paths(&self) -> Vec<String> {
+        let places = crate::fields::places::<ControllerState>();
+        places.into_iter().map(|place| place.path).collect()
+    }
+
+    fn values(&self, values: &mut Vec<crate::fields::Value>) {
+        crate::fields::Fields::values(self, values)
+    }
 }
 
-pub(super) fn fresh() -> Box<dyn crate::Controller> {
+pub(super) fn fresh() -> Box<dyn crate::answer::Controller> {
     Box::new(ControllerState::default())
 }

@@ -79,7 +79,13 @@ impl Night {
                 .out
                 .write_all(line)
                 .and_then(|()| self.out.write_all(b"\n"));
-            written.expect("standard output takes the lines");
+            if let Err(error) = written {
+                // A reader that has seen enough closes its end.
+                if error.kind() != io::ErrorKind::BrokenPipe {
+                    eprintln!("nights: {error}");
+                }
+                std::process::exit(1);
+            }
         }
     }
 

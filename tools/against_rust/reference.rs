@@ -1,42 +1,17 @@
 //! `reference`: answers lines of ticks on standard input with the published Rust.
 
-use std::io::{self, BufRead, BufWriter, Write};
+use std::io::{self, BufWriter, Write};
 
 mod answer;
+mod fields;
 mod stubs;
 mod tick;
 
-use answer::{Answer, Controller};
+use answer::{AirBox, Answer};
 use tick::Tick;
 
 // Written by the build: `mod oracle`, `mod plain` and `mod quiet` around the published files.
 include!(env!("PUBLISHED_MODULES"));
-
-/// A controller and the time of its last accepted tick.
-struct AirBox {
-    controller: Box<dyn Controller>,
-    last: Option<f64>,
-}
-
-impl AirBox {
-    fn fresh(controller: Box<dyn Controller>) -> AirBox {
-        AirBox {
-            controller,
-            last: None,
-        }
-    }
-
-    /// Ask the questions and, if all get a "yes", let the controller take the tick.
-    fn tick(&mut self, tick: &Tick) -> Result<Answer, usize> {
-        match tick.refusal(self.last) {
-            0 => {
-                self.last = Some(tick.t);
-                Ok(self.controller.answer(tick))
-            }
-            number => Err(number),
-        }
-    }
-}
 
 fn print(answer: Result<Answer, usize>, line: &mut Vec<u8>) {
     match answer {
@@ -53,30 +28,21 @@ fn print(answer: Result<Answer, usize>, line: &mut Vec<u8>) {
 }
 
 fn main() -> io::Result<()> {
-    let mut input = io::stdin().lock();
     let mut output = BufWriter::with_capacity(1 << 20, io::stdout().lock());
-    let mut air_box = AirBox::fresh(plain::fresh());
-    let mut line = Vec::new();
+    let mut air_box = AirBox::new([plain::fresh, quiet::fresh]);
     let mut answer = Vec::new();
-    while input.read_until(b'\n', &mut line)? > 0 {
-        if line.last() == Some(&b'\n') {
-            line.pop();
-        }
-        match Tick::read(&line) {
+    tick::each_line(|line| {
+        match Tick::read(line) {
             None => answer.extend_from_slice(b"malformed"),
             Some(tick) => {
-                match tick.start {
-                    1 => air_box = AirBox::fresh(plain::fresh()),
-                    2 => air_box = AirBox::fresh(quiet::fresh()),
-                    _ => {}
-                }
+                air_box.start(tick.start);
                 print(air_box.tick(&tick), &mut answer);
             }
         }
         answer.push(b'\n');
         output.write_all(&answer)?;
-        line.clear();
         answer.clear();
-    }
+        Ok(())
+    })?;
     output.flush()
 }

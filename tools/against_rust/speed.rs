@@ -1,78 +1,25 @@
 //! `speed FILE ROUNDS [port|rust]`: runs the accepted ticks of FILE by the port's archive and by the published Rust, in one
 //! run, and prints the time a tick of each. With a third word only that side runs, for a count of its instructions.
 
-use std::{env, fs, hint::black_box, mem::MaybeUninit, time::Instant};
+use std::{env, fs, hint::black_box, time::Instant};
 
 mod answer;
+mod fields;
+mod port;
 mod stubs;
 mod tick;
 
-use answer::{Answer, Controller};
+use answer::Answer;
+use port::AirBoxTick;
 use tick::Tick;
 
 // Written by the build: `mod oracle`, `mod plain` and `mod quiet` around the published files.
 include!(env!("PUBLISHED_MODULES"));
 
-/// The tick and the box as `include/air_box.h` lays them out.
-#[repr(C)]
-struct PortTick {
-    t: f64,
-    zone: f64,
-    cooling: f64,
-    heating: f64,
-    window: bool,
-    occupancy: bool,
-    mode: i64,
-    co2_setpoint: f64,
-    co2: f64,
-    discharge: f64,
-    supply: f64,
-    flow: f64,
-    airflow: i64,
-    damper: i64,
-    fan: bool,
-}
-
-#[repr(C)]
-struct PortBox {
-    state: [MaybeUninit<u64>; 106],
-}
-
-#[repr(C)]
-struct PortOutput {
-    floats: [f64; 5],
-    integers: [i64; 5],
-}
-
-unsafe extern "C" {
-    fn air_box_fresh(quiet: bool) -> PortBox;
-    fn air_box_tick(record: *mut PortBox, tick: *const PortTick, output: *mut PortOutput) -> u8;
-}
-
-fn port_tick(tick: &Tick) -> PortTick {
-    PortTick {
-        t: tick.t,
-        zone: tick.zone,
-        cooling: tick.cooling,
-        heating: tick.heating,
-        window: tick.status & 1 != 0,
-        occupancy: tick.status & 2 != 0,
-        mode: tick.mode,
-        co2_setpoint: tick.co2_setpoint,
-        co2: tick.co2,
-        discharge: tick.discharge,
-        supply: tick.supply,
-        flow: tick.flow,
-        airflow: tick.airflow,
-        damper: tick.damper,
-        fan: tick.status & 4 != 0,
-    }
-}
-
 /// A tick that is accepted, with the start word that holds for it, as each side takes it.
 struct Accepted {
     rust: Tick,
-    port: PortTick,
+    port: AirBoxTick,
 }
 
 /// The accepted ticks of a file.
@@ -89,29 +36,29 @@ fn accepted(text: &[u8]) -> Vec<Accepted> {
         }
         last = Some(tick.t);
         tick.start = std::mem::take(&mut pending);
-        let port = port_tick(&tick);
+        let port = port::port_tick(&tick);
         ticks.push(Accepted { rust: tick, port });
     }
     ticks
 }
 
-fn digest(sum: u64, floats: &[f64; 5], integers: &[i64; 5]) -> u64 {
-    let sum = floats.iter().fold(sum, |s, x| s.wrapping_mul(31).wrapping_add(x.to_bits()));
-    integers.iter().fold(sum, |s, n| s.wrapping_mul(31).wrapping_add(*n as u64))
+fn digest(sum: u64, answer: &Answer) -> u64 {
+    let sum = answer.floats.iter().fold(sum, |s, x| s.wrapping_mul(31).wrapping_add(x.to_bits()));
+    answer.integers.iter().fold(sum, |s, n| s.wrapping_mul(31).wrapping_add(*n as u64))
 }
 
 #[inline(never)]
 #[unsafe(no_mangle)]
 fn run_port(ticks: &[Accepted]) -> u64 {
     let mut sum = 0;
-    let mut record = unsafe { air_box_fresh(false) };
-    let mut output = PortOutput { floats: [0.0; 5], integers: [0; 5] };
+    let mut record = port::AirBox::fresh(false);
+    let mut output = Answer { floats: [0.0; 5], integers: [0; 5] };
     for tick in ticks {
         if tick.rust.start != 0 {
-            record = unsafe { air_box_fresh(tick.rust.start == 2) };
+            record = port::AirBox::fresh(tick.rust.start == 2);
         }
-        unsafe { air_box_tick(&mut record, &tick.port, &mut output) };
-        sum = digest(sum, &output.floats, &output.integers);
+        record.tick(&tick.port, &mut output);
+        sum = digest(sum, &output);
     }
     sum
 }
@@ -128,7 +75,7 @@ fn run_rust(ticks: &[Accepted]) -> u64 {
             _ => {}
         }
         let answer = controller.answer(&tick.rust);
-        sum = digest(sum, &answer.floats, &answer.integers);
+        sum = digest(sum, &answer);
     }
     sum
 }
