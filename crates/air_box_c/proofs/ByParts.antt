@@ -15,12 +15,12 @@ use Rattle.air_box.specs.declared.Refusal.{Refusal}
 use Rattle.air_box.proofs.Demands.{above-zero}
 use Rattle.air_box_c.specs.Records.{open-time, open-box, shut-box, start-of, verdict-number, Ticked}
 use Rattle.air_box_c.specs.Stages.{questioned, suppression-tick, airflow-tick, requests-tick, alarms-tick, last-tick}
-use Rattle.air_box_c.specs.declared.AirBoxC.{AirBoxC}
-use Rattle.air_box_c.specs.declared.SuppressionTick.{SuppressionTick}
-use Rattle.air_box_c.specs.declared.AirflowTick.{AirflowTick}
-use Rattle.air_box_c.specs.declared.RequestsTick.{RequestsTick}
-use Rattle.air_box_c.specs.declared.AlarmsTick.{AlarmsTick}
-use Rattle.air_box_c.specs.declared.LastTick.{LastTick}
+use Rattle.air_box_c.specs.declared.records.AirBoxC.{AirBoxC}
+use Rattle.air_box_c.specs.declared.stages.SuppressionTick.{SuppressionTick}
+use Rattle.air_box_c.specs.declared.stages.AirflowTick.{AirflowTick}
+use Rattle.air_box_c.specs.declared.stages.RequestsTick.{RequestsTick}
+use Rattle.air_box_c.specs.declared.stages.AlarmsTick.{AlarmsTick}
+use Rattle.air_box_c.specs.declared.stages.LastTick.{LastTick}
 use Rattle.air_box_c.proofs.OpenShut.{open-shut}
 
 -- the stages of an accepted tick

@@ -11,7 +11,7 @@ use Rattle.air_box.specs.declared.Tick.{Tick}
 use Rattle.air_box.specs.declared.Answer.the-variants.{Accepted}
 use Rattle.air_box.specs.declared.Refusal.{Refusal}
 use Rattle.air_box_c.specs.Records.{open-time, open-box, Ticked}
-use Rattle.air_box_c.specs.declared.AirBoxC.{AirBoxC}
+use Rattle.air_box_c.specs.declared.records.AirBoxC.{AirBoxC}
 
 -- the box record before the tick k, the output record before it, both after it, and the returned number
 pub record ByNumber (before : AirBoxC) (k : Tick) (old-output : ControllerOutput) (after : AirBoxC) (output : ControllerOutput) (number : ℕ) : Type 0 where

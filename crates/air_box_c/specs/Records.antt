@@ -27,18 +27,18 @@ use Rattle.air_box.specs.declared.Answer.{Answer}
 use Rattle.air_box.specs.declared.Answer.the-variants.{Accepted, Refused}
 use Rattle.air_box.specs.declared.Verdict.{Verdict}
 use Rattle.air_box.specs.declared.Verdict.the-variants.{Accept, Refuse}
-use Rattle.air_box_c.specs.declared.OptionalTimeC.{OptionalTimeC}
-use Rattle.air_box_c.specs.declared.TrueDelayC.{TrueDelayC}
-use Rattle.air_box_c.specs.declared.TimerC.{TimerC}
-use Rattle.air_box_c.specs.declared.TimeSuppressionC.{TimeSuppressionC}
-use Rattle.air_box_c.specs.declared.LoopPiC.{LoopPiC}
-use Rattle.air_box_c.specs.declared.ControlLoopsC.{ControlLoopsC}
-use Rattle.air_box_c.specs.declared.DamperC.{DamperC}
-use Rattle.air_box_c.specs.declared.SystemRequestsC.{SystemRequestsC}
-use Rattle.air_box_c.specs.declared.AlarmsC.{AlarmsC}
-use Rattle.air_box_c.specs.declared.AirflowC.{AirflowC}
-use Rattle.air_box_c.specs.declared.LastTickC.{LastTickC}
-use Rattle.air_box_c.specs.declared.AirBoxC.{AirBoxC}
+use Rattle.air_box_c.specs.declared.records.OptionalTimeC.{OptionalTimeC}
+use Rattle.air_box_c.specs.declared.records.TrueDelayC.{TrueDelayC}
+use Rattle.air_box_c.specs.declared.records.TimerC.{TimerC}
+use Rattle.air_box_c.specs.declared.records.TimeSuppressionC.{TimeSuppressionC}
+use Rattle.air_box_c.specs.declared.records.LoopPiC.{LoopPiC}
+use Rattle.air_box_c.specs.declared.records.ControlLoopsC.{ControlLoopsC}
+use Rattle.air_box_c.specs.declared.records.DamperC.{DamperC}
+use Rattle.air_box_c.specs.declared.records.SystemRequestsC.{SystemRequestsC}
+use Rattle.air_box_c.specs.declared.records.AlarmsC.{AlarmsC}
+use Rattle.air_box_c.specs.declared.records.AirflowC.{AirflowC}
+use Rattle.air_box_c.specs.declared.records.LastTickC.{LastTickC}
+use Rattle.air_box_c.specs.declared.records.AirBoxC.{AirBoxC}
 
 unfoldable pub open-time : OptionalTimeC → OptionalTime
 open-time c = if c .present then At (c .time) else Absent

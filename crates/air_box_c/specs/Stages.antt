@@ -7,22 +7,22 @@ use Rattle.cooling_only_controller.specs.declared.AirflowSteps.{AirflowSteps}
 use Rattle.air_box.specs.AirBox.{questions}
 use Rattle.air_box.specs.declared.Tick.{Tick}
 use Rattle.air_box_c.specs.Records.{open-time, open-time-suppression, shut-time-suppression, open-control-loops, open-damper, shut-airflow, open-system-requests, shut-system-requests, open-alarms, shut-alarms, verdict-number}
-use Rattle.air_box_c.specs.declared.TimeSuppressionC.{TimeSuppressionC}
-use Rattle.air_box_c.specs.declared.AirflowC.{AirflowC}
-use Rattle.air_box_c.specs.declared.SystemRequestsC.{SystemRequestsC}
-use Rattle.air_box_c.specs.declared.AlarmsC.{AlarmsC}
-use Rattle.air_box_c.specs.declared.LastTickC.{LastTickC}
-use Rattle.air_box_c.specs.declared.Questioned.{Questioned}
-use Rattle.air_box_c.specs.declared.TickStart.{TickStart}
-use Rattle.air_box_c.specs.declared.AfterSuppression.{AfterSuppression}
-use Rattle.air_box_c.specs.declared.SuppressionTick.{SuppressionTick}
-use Rattle.air_box_c.specs.declared.AfterDampers.{AfterDampers}
-use Rattle.air_box_c.specs.declared.AirflowTick.{AirflowTick}
-use Rattle.air_box_c.specs.declared.AfterRequests.{AfterRequests}
-use Rattle.air_box_c.specs.declared.RequestsTick.{RequestsTick}
-use Rattle.air_box_c.specs.declared.AfterAlarms.{AfterAlarms}
-use Rattle.air_box_c.specs.declared.AlarmsTick.{AlarmsTick}
-use Rattle.air_box_c.specs.declared.LastTick.{LastTick}
+use Rattle.air_box_c.specs.declared.records.TimeSuppressionC.{TimeSuppressionC}
+use Rattle.air_box_c.specs.declared.records.AirflowC.{AirflowC}
+use Rattle.air_box_c.specs.declared.records.SystemRequestsC.{SystemRequestsC}
+use Rattle.air_box_c.specs.declared.records.AlarmsC.{AlarmsC}
+use Rattle.air_box_c.specs.declared.records.LastTickC.{LastTickC}
+use Rattle.air_box_c.specs.declared.stages.Questioned.{Questioned}
+use Rattle.air_box_c.specs.declared.stages.TickStart.{TickStart}
+use Rattle.air_box_c.specs.declared.stages.AfterSuppression.{AfterSuppression}
+use Rattle.air_box_c.specs.declared.stages.SuppressionTick.{SuppressionTick}
+use Rattle.air_box_c.specs.declared.stages.AfterDampers.{AfterDampers}
+use Rattle.air_box_c.specs.declared.stages.AirflowTick.{AirflowTick}
+use Rattle.air_box_c.specs.declared.stages.AfterRequests.{AfterRequests}
+use Rattle.air_box_c.specs.declared.stages.RequestsTick.{RequestsTick}
+use Rattle.air_box_c.specs.declared.stages.AfterAlarms.{AfterAlarms}
+use Rattle.air_box_c.specs.declared.stages.AlarmsTick.{AlarmsTick}
+use Rattle.air_box_c.specs.declared.stages.LastTick.{LastTick}
 
 -- the questions
 abbrev pub questioned : LastTickC → Tick → Questioned

@@ -15,70 +15,70 @@ use Rattle.cooling_only_controller.proofs.ControllerOutput as ControllerOutput�
 use Rattle.cooling_only_controller.proofs.ControllerOutput.Laws as ControllerOutput′
 use Rattle.air_box_c.specs.Records.{Ticked}
 use Rattle.air_box_c.specs.Stages.{questioned, suppression-tick, airflow-tick, requests-tick, alarms-tick, last-tick}
-use Rattle.air_box_c.specs.declared.AirBoxC.{AirBoxC}
-use Rattle.air_box_c.specs.declared.TimeSuppressionC.{TimeSuppressionC}
-use Rattle.air_box_c.specs.declared.AirflowC.{AirflowC}
-use Rattle.air_box_c.specs.declared.SystemRequestsC.{SystemRequestsC}
-use Rattle.air_box_c.specs.declared.AlarmsC.{AlarmsC}
-use Rattle.air_box_c.specs.declared.LastTickC.{LastTickC}
-use Rattle.air_box_c.specs.declared.TickStart.{TickStart}
-use Rattle.air_box_c.specs.declared.AfterSuppression.{AfterSuppression}
-use Rattle.air_box_c.specs.declared.AfterDampers.{AfterDampers}
-use Rattle.air_box_c.specs.declared.AfterRequests.{AfterRequests}
-use Rattle.air_box_c.specs.declared.AfterAlarms.{AfterAlarms}
-use Rattle.air_box_c.specs.declared.Questioned.{Questioned}
-use Rattle.air_box_c.specs.declared.SuppressionTick.{SuppressionTick}
-use Rattle.air_box_c.specs.declared.AirflowTick.{AirflowTick}
-use Rattle.air_box_c.specs.declared.RequestsTick.{RequestsTick}
-use Rattle.air_box_c.specs.declared.AlarmsTick.{AlarmsTick}
-use Rattle.air_box_c.specs.declared.LastTick.{LastTick}
+use Rattle.air_box_c.specs.declared.records.AirBoxC.{AirBoxC}
+use Rattle.air_box_c.specs.declared.records.TimeSuppressionC.{TimeSuppressionC}
+use Rattle.air_box_c.specs.declared.records.AirflowC.{AirflowC}
+use Rattle.air_box_c.specs.declared.records.SystemRequestsC.{SystemRequestsC}
+use Rattle.air_box_c.specs.declared.records.AlarmsC.{AlarmsC}
+use Rattle.air_box_c.specs.declared.records.LastTickC.{LastTickC}
+use Rattle.air_box_c.specs.declared.stages.TickStart.{TickStart}
+use Rattle.air_box_c.specs.declared.stages.AfterSuppression.{AfterSuppression}
+use Rattle.air_box_c.specs.declared.stages.AfterDampers.{AfterDampers}
+use Rattle.air_box_c.specs.declared.stages.AfterRequests.{AfterRequests}
+use Rattle.air_box_c.specs.declared.stages.AfterAlarms.{AfterAlarms}
+use Rattle.air_box_c.specs.declared.stages.Questioned.{Questioned}
+use Rattle.air_box_c.specs.declared.stages.SuppressionTick.{SuppressionTick}
+use Rattle.air_box_c.specs.declared.stages.AirflowTick.{AirflowTick}
+use Rattle.air_box_c.specs.declared.stages.RequestsTick.{RequestsTick}
+use Rattle.air_box_c.specs.declared.stages.AlarmsTick.{AlarmsTick}
+use Rattle.air_box_c.specs.declared.stages.LastTick.{LastTick}
 use Rattle.air_box_c.proofs.ByParts.{tick-stored, tick-refused}
-use Rattle.air_box_c.proofs.AirBoxC as AirBoxC·
-use Rattle.air_box_c.proofs.AirBoxC.Laws as AirBoxC′
-use Rattle.air_box_c.proofs.TimeSuppressionC as TimeSuppressionC·
-use Rattle.air_box_c.proofs.TimeSuppressionC.Laws as TimeSuppressionC′
-use Rattle.air_box_c.proofs.AirflowC as AirflowC·
-use Rattle.air_box_c.proofs.AirflowC.Laws as AirflowC′
-use Rattle.air_box_c.proofs.SystemRequestsC as SystemRequestsC·
-use Rattle.air_box_c.proofs.SystemRequestsC.Laws as SystemRequestsC′
-use Rattle.air_box_c.proofs.AlarmsC as AlarmsC·
-use Rattle.air_box_c.proofs.AlarmsC.Laws as AlarmsC′
-use Rattle.air_box_c.proofs.LastTickC as LastTickC·
-use Rattle.air_box_c.proofs.LastTickC.Laws as LastTickC′
-use Rattle.air_box_c.proofs.TickStart as TickStart·
-use Rattle.air_box_c.proofs.TickStart.Laws as TickStart′
-use Rattle.air_box_c.proofs.AfterSuppression as AfterSuppression·
-use Rattle.air_box_c.proofs.AfterSuppression.Laws as AfterSuppression′
-use Rattle.air_box_c.proofs.AfterDampers as AfterDampers·
-use Rattle.air_box_c.proofs.AfterDampers.Laws as AfterDampers′
-use Rattle.air_box_c.proofs.AfterRequests as AfterRequests·
-use Rattle.air_box_c.proofs.AfterRequests.Laws as AfterRequests′
-use Rattle.air_box_c.proofs.AfterAlarms as AfterAlarms·
-use Rattle.air_box_c.proofs.AfterAlarms.Laws as AfterAlarms′
-use Rattle.air_box_c.proofs.Questioned as Questioned·
-use Rattle.air_box_c.proofs.Questioned.Laws as Questioned′
-use Rattle.air_box_c.proofs.SuppressionTick as SuppressionTick·
-use Rattle.air_box_c.proofs.SuppressionTick.Laws as SuppressionTick′
-use Rattle.air_box_c.proofs.AirflowTick as AirflowTick·
-use Rattle.air_box_c.proofs.AirflowTick.Laws as AirflowTick′
-use Rattle.air_box_c.proofs.RequestsTick as RequestsTick·
-use Rattle.air_box_c.proofs.RequestsTick.Laws as RequestsTick′
-use Rattle.air_box_c.proofs.AlarmsTick as AlarmsTick·
-use Rattle.air_box_c.proofs.AlarmsTick.Laws as AlarmsTick′
-use Rattle.air_box_c.proofs.LastTick as LastTick·
-use Rattle.air_box_c.proofs.LastTick.Laws as LastTick′
-use Rattle.air_box_c.proofs.LastTickC.question.Symbol as LastTickC·question
-use Rattle.air_box_c.proofs.LastTickC.question.Met as LastTickC·question·met
-use Rattle.air_box_c.proofs.TimeSuppressionC.tick.Symbol as TimeSuppressionC·tick
-use Rattle.air_box_c.proofs.TimeSuppressionC.tick.Met as TimeSuppressionC·tick·met
-use Rattle.air_box_c.proofs.AirflowC.tick.Symbol as AirflowC·tick
-use Rattle.air_box_c.proofs.AirflowC.tick.Met as AirflowC·tick·met
-use Rattle.air_box_c.proofs.SystemRequestsC.tick.Symbol as SystemRequestsC·tick
-use Rattle.air_box_c.proofs.SystemRequestsC.tick.Met as SystemRequestsC·tick·met
-use Rattle.air_box_c.proofs.AlarmsC.tick.Symbol as AlarmsC·tick
-use Rattle.air_box_c.proofs.AlarmsC.tick.Met as AlarmsC·tick·met
-use Rattle.air_box_c.proofs.LastTickC.tick.Symbol as LastTickC·tick
-use Rattle.air_box_c.proofs.LastTickC.tick.Met as LastTickC·tick·met
+use Rattle.air_box_c.proofs.records.AirBoxC as AirBoxC·
+use Rattle.air_box_c.proofs.records.AirBoxC.Laws as AirBoxC′
+use Rattle.air_box_c.proofs.records.TimeSuppressionC as TimeSuppressionC·
+use Rattle.air_box_c.proofs.records.TimeSuppressionC.Laws as TimeSuppressionC′
+use Rattle.air_box_c.proofs.records.AirflowC as AirflowC·
+use Rattle.air_box_c.proofs.records.AirflowC.Laws as AirflowC′
+use Rattle.air_box_c.proofs.records.SystemRequestsC as SystemRequestsC·
+use Rattle.air_box_c.proofs.records.SystemRequestsC.Laws as SystemRequestsC′
+use Rattle.air_box_c.proofs.records.AlarmsC as AlarmsC·
+use Rattle.air_box_c.proofs.records.AlarmsC.Laws as AlarmsC′
+use Rattle.air_box_c.proofs.records.LastTickC as LastTickC·
+use Rattle.air_box_c.proofs.records.LastTickC.Laws as LastTickC′
+use Rattle.air_box_c.proofs.stages.TickStart as TickStart·
+use Rattle.air_box_c.proofs.stages.TickStart.Laws as TickStart′
+use Rattle.air_box_c.proofs.stages.AfterSuppression as AfterSuppression·
+use Rattle.air_box_c.proofs.stages.AfterSuppression.Laws as AfterSuppression′
+use Rattle.air_box_c.proofs.stages.AfterDampers as AfterDampers·
+use Rattle.air_box_c.proofs.stages.AfterDampers.Laws as AfterDampers′
+use Rattle.air_box_c.proofs.stages.AfterRequests as AfterRequests·
+use Rattle.air_box_c.proofs.stages.AfterRequests.Laws as AfterRequests′
+use Rattle.air_box_c.proofs.stages.AfterAlarms as AfterAlarms·
+use Rattle.air_box_c.proofs.stages.AfterAlarms.Laws as AfterAlarms′
+use Rattle.air_box_c.proofs.stages.Questioned as Questioned·
+use Rattle.air_box_c.proofs.stages.Questioned.Laws as Questioned′
+use Rattle.air_box_c.proofs.stages.SuppressionTick as SuppressionTick·
+use Rattle.air_box_c.proofs.stages.SuppressionTick.Laws as SuppressionTick′
+use Rattle.air_box_c.proofs.stages.AirflowTick as AirflowTick·
+use Rattle.air_box_c.proofs.stages.AirflowTick.Laws as AirflowTick′
+use Rattle.air_box_c.proofs.stages.RequestsTick as RequestsTick·
+use Rattle.air_box_c.proofs.stages.RequestsTick.Laws as RequestsTick′
+use Rattle.air_box_c.proofs.stages.AlarmsTick as AlarmsTick·
+use Rattle.air_box_c.proofs.stages.AlarmsTick.Laws as AlarmsTick′
+use Rattle.air_box_c.proofs.stages.LastTick as LastTick·
+use Rattle.air_box_c.proofs.stages.LastTick.Laws as LastTick′
+use Rattle.air_box_c.proofs.records.LastTickC.question.Symbol as LastTickC·question
+use Rattle.air_box_c.proofs.records.LastTickC.question.Met as LastTickC·question·met
+use Rattle.air_box_c.proofs.records.TimeSuppressionC.tick.Symbol as TimeSuppressionC·tick
+use Rattle.air_box_c.proofs.records.TimeSuppressionC.tick.Met as TimeSuppressionC·tick·met
+use Rattle.air_box_c.proofs.records.AirflowC.tick.Symbol as AirflowC·tick
+use Rattle.air_box_c.proofs.records.AirflowC.tick.Met as AirflowC·tick·met
+use Rattle.air_box_c.proofs.records.SystemRequestsC.tick.Symbol as SystemRequestsC·tick
+use Rattle.air_box_c.proofs.records.SystemRequestsC.tick.Met as SystemRequestsC·tick·met
+use Rattle.air_box_c.proofs.records.AlarmsC.tick.Symbol as AlarmsC·tick
+use Rattle.air_box_c.proofs.records.AlarmsC.tick.Met as AlarmsC·tick·met
+use Rattle.air_box_c.proofs.records.LastTickC.tick.Symbol as LastTickC·tick
+use Rattle.air_box_c.proofs.records.LastTickC.tick.Met as LastTickC·tick·met
 use Rattle.air_box_c.proofs.air_box_tick.Key.{name as #f}
 use Rattle.air_box_c.proofs.air_box_tick as f
 use Rattle.air_box_c.proofs.air_box_tick.Statement as stated
@@ -185,9 +185,9 @@ air-box-tick-spec 𝓤 H 𝓜 𝓖 𝓡 =
     (tables 𝓤 H 𝓜 𝓡 code.env .C) (tables 𝓤 H 𝓜 𝓡 code.env .Λ) #f code.function (code.unfolded 𝓤 H 𝓜 𝓡)
     (lent-out-meets suppression-type airflow-type requests-type alarms-type last-type tick-type output-type start-type after-suppression-type after-dampers-type after-requests-type after-alarms-type box box-laws
     question-stage suppression-stage airflow-stage requests-stage alarms-stage last-stage Ticked law-taken law-left 𝓤 H (𝓖 .A) (givenOf 𝓤 H 𝓜 𝓖) (tablesOf 𝓤 H 𝓜 (tables 𝓤 H 𝓜 𝓡 code.env))
-    (cited 𝓤 H (StageMeets last-type tick-type of-u8 start-type question-stage 𝓤 H (𝓖 .A)) 𝓜 𝓡 code.env LastTickC·question.name LastTickC·question.routine code.calls-air-box-c·LastTickC·question (LastTickC·question·met.met 𝓤 H 𝓜 𝓖 𝓡))
-    (cited 𝓤 H (StageMeets suppression-type start-type suppression-type after-suppression-type suppression-stage 𝓤 H (𝓖 .A)) 𝓜 𝓡 code.env TimeSuppressionC·tick.name TimeSuppressionC·tick.routine code.calls-air-box-c·TimeSuppressionC·tick (TimeSuppressionC·tick·met.met 𝓤 H 𝓜 𝓖 𝓡))
-    (cited 𝓤 H (StageMeets airflow-type after-suppression-type airflow-type after-dampers-type airflow-stage 𝓤 H (𝓖 .A)) 𝓜 𝓡 code.env AirflowC·tick.name AirflowC·tick.routine code.calls-air-box-c·AirflowC·tick (AirflowC·tick·met.met 𝓤 H 𝓜 𝓖 𝓡))
-    (cited 𝓤 H (StageMeets requests-type after-dampers-type requests-type after-requests-type requests-stage 𝓤 H (𝓖 .A)) 𝓜 𝓡 code.env SystemRequestsC·tick.name SystemRequestsC·tick.routine code.calls-air-box-c·SystemRequestsC·tick (SystemRequestsC·tick·met.met 𝓤 H 𝓜 𝓖 𝓡))
-    (cited 𝓤 H (StageMeets alarms-type after-requests-type alarms-type after-alarms-type alarms-stage 𝓤 H (𝓖 .A)) 𝓜 𝓡 code.env AlarmsC·tick.name AlarmsC·tick.routine code.calls-air-box-c·AlarmsC·tick (AlarmsC·tick·met.met 𝓤 H 𝓜 𝓖 𝓡))
-    (cited 𝓤 H (StageMeets last-type after-alarms-type last-type output-type last-stage 𝓤 H (𝓖 .A)) 𝓜 𝓡 code.env LastTickC·tick.name LastTickC·tick.routine code.calls-air-box-c·LastTickC·tick (LastTickC·tick·met.met 𝓤 H 𝓜 𝓖 𝓡)))
+    (cited 𝓤 H (StageMeets last-type tick-type of-u8 start-type question-stage 𝓤 H (𝓖 .A)) 𝓜 𝓡 code.env LastTickC·question.name LastTickC·question.routine code.calls-air-box-c·records·LastTickC·question (LastTickC·question·met.met 𝓤 H 𝓜 𝓖 𝓡))
+    (cited 𝓤 H (StageMeets suppression-type start-type suppression-type after-suppression-type suppression-stage 𝓤 H (𝓖 .A)) 𝓜 𝓡 code.env TimeSuppressionC·tick.name TimeSuppressionC·tick.routine code.calls-air-box-c·records·TimeSuppressionC·tick (TimeSuppressionC·tick·met.met 𝓤 H 𝓜 𝓖 𝓡))
+    (cited 𝓤 H (StageMeets airflow-type after-suppression-type airflow-type after-dampers-type airflow-stage 𝓤 H (𝓖 .A)) 𝓜 𝓡 code.env AirflowC·tick.name AirflowC·tick.routine code.calls-air-box-c·records·AirflowC·tick (AirflowC·tick·met.met 𝓤 H 𝓜 𝓖 𝓡))
+    (cited 𝓤 H (StageMeets requests-type after-dampers-type requests-type after-requests-type requests-stage 𝓤 H (𝓖 .A)) 𝓜 𝓡 code.env SystemRequestsC·tick.name SystemRequestsC·tick.routine code.calls-air-box-c·records·SystemRequestsC·tick (SystemRequestsC·tick·met.met 𝓤 H 𝓜 𝓖 𝓡))
+    (cited 𝓤 H (StageMeets alarms-type after-requests-type alarms-type after-alarms-type alarms-stage 𝓤 H (𝓖 .A)) 𝓜 𝓡 code.env AlarmsC·tick.name AlarmsC·tick.routine code.calls-air-box-c·records·AlarmsC·tick (AlarmsC·tick·met.met 𝓤 H 𝓜 𝓖 𝓡))
+    (cited 𝓤 H (StageMeets last-type after-alarms-type last-type output-type last-stage 𝓤 H (𝓖 .A)) 𝓜 𝓡 code.env LastTickC·tick.name LastTickC·tick.routine code.calls-air-box-c·records·LastTickC·tick (LastTickC·tick·met.met 𝓤 H 𝓜 𝓖 𝓡)))

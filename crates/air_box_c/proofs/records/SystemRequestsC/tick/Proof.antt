@@ -1,0 +1,12 @@
+-- `air_box_c::records::SystemRequestsC::tick` meets its contract. Assumes nothing.
+use borrow.Author.Needs.{needs}
+use Rattle.air_box_c.proofs.records.SystemRequestsC.tick.Statement.{statement}
+use Rattle.air_box_c.proofs.records.SystemRequestsC.tick.Tie as tie
+
+returns : tie.Need-returns
+returns c = rw (c .before .shut .ensures, c .before .before .output .ensures, c .before .before .before .request-input .ensures, c .before .before .before .before .«open» .ensures)
+
+pub tick-spec : {M : Type 1} → statement M
+tick-spec =
+    tie.close (tie.spec (λ c κs. search needs) (λ c κs. search needs) (λ c κs. search needs)
+    (λ c κs. search needs) returns)
