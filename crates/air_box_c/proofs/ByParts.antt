@@ -13,8 +13,9 @@ use Rattle.air_box.specs.declared.Verdict.{Verdict}
 use Rattle.air_box.specs.declared.Verdict.the-variants.{Accept, Refuse}
 use Rattle.air_box.specs.declared.Refusal.{Refusal}
 use Rattle.air_box.proofs.Demands.{above-zero}
-use Rattle.air_box_c.specs.Records.{open-time, open-box, shut-box, start-of, verdict-number, Ticked}
-use Rattle.air_box_c.specs.Stages.{questioned, suppression-tick, airflow-tick, requests-tick, alarms-tick, last-tick}
+use Rattle.air_box_c.specs.Records.{open-time, open-box, shut-box, start-of}
+use Rattle.air_box_c.specs.Promises.{Ticked}
+use Rattle.air_box_c.specs.Stages.{verdict-number, questioned, suppression-tick, airflow-tick, requests-tick, alarms-tick, last-tick}
 use Rattle.air_box_c.specs.declared.records.AirBoxC.{AirBoxC}
 use Rattle.air_box_c.specs.declared.stages.SuppressionTick.{SuppressionTick}
 use Rattle.air_box_c.specs.declared.stages.AirflowTick.{AirflowTick}

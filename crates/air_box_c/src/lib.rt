@@ -1,7 +1,7 @@
 // The C interface: the exported functions. The box as a record of numbers and flags is in records.rt, the parts of a tick are in stages.rt.
 ghost use mathlib.Core.Path.{_≡_};
 ghost use Rattle.air_box.specs.AirBox as AirBoxes;
-ghost use Rattle.air_box_c.specs.Records as Records;
+ghost use Rattle.air_box_c.specs.Promises as Promises;
 
 pub mod records;
 mod stages;
@@ -21,7 +21,7 @@ use records::TimeSuppressionC;
 // A box that has had no tick.
 #[no_mangle]
 pub extern "C" fn air_box_fresh(quiet: bool) -> AirBoxC
-    ensures { λ r. ⌜ Records.Fresh quiet r ⌝ }
+    ensures { λ r. ⌜ Promises.Fresh quiet r ⌝ }
 {
     let s = ControllerState::fresh();
     let time_suppression = TimeSuppressionC::shut(s.time_suppression);
@@ -43,7 +43,7 @@ pub extern "C" fn air_box_fresh(quiet: bool) -> AirBoxC
 // `last` at the end with the output. The record copied out and in as a whole costs more.
 #[no_mangle]
 pub extern "C" fn air_box_tick(b: &mut AirBoxC, tick: &Tick, output: &mut ControllerOutput) -> u8
-    ensures { λ r. ⌜ Records.Ticked (now (b .entry)) (now (tick .entry)) (now (output .entry)) (now (b .exit)) (now (output .exit)) r ⌝ }
+    ensures { λ r. ⌜ Promises.Ticked (now (b .entry)) (now (tick .entry)) (now (output .entry)) (now (b .exit)) (now (output .exit)) r ⌝ }
 {
     let questioned = b.last.question(*tick);
     if questioned.number == 0 {

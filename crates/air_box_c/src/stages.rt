@@ -1,7 +1,6 @@
 // One tick over the records, part by part, in the order in which a tick goes through them: each stage takes its part by value,
 // and gives the part afterwards beside what it hands on to the next.
 ghost use mathlib.Core.Path.{_≡_};
-ghost use Rattle.air_box_c.specs.Records as Records;
 ghost use Rattle.air_box_c.specs.Stages as Stages;
 use super::records::AirflowC;
 use super::records::AlarmsC;
@@ -48,7 +47,7 @@ impl LastTickC {
 }
 
 fn verdict_number(verdict: Verdict) -> u8
-    ensures { λ r. ⌜ r ≡ Records.verdict-number verdict ⌝ }
+    ensures { λ r. ⌜ r ≡ Stages.verdict-number verdict ⌝ }
 {
     match verdict {
         Verdict::Accept => 0,

@@ -13,7 +13,7 @@ use Rattle.air_box.proofs.Tick.Laws as Tick′
 use Rattle.cooling_only_controller.specs.declared.ControllerOutput.{ControllerOutput}
 use Rattle.cooling_only_controller.proofs.ControllerOutput as ControllerOutput·
 use Rattle.cooling_only_controller.proofs.ControllerOutput.Laws as ControllerOutput′
-use Rattle.air_box_c.specs.Records.{Ticked}
+use Rattle.air_box_c.specs.Promises.{Ticked}
 use Rattle.air_box_c.specs.Stages.{questioned, suppression-tick, airflow-tick, requests-tick, alarms-tick, last-tick}
 use Rattle.air_box_c.specs.declared.records.AirBoxC.{AirBoxC}
 use Rattle.air_box_c.specs.declared.records.TimeSuppressionC.{TimeSuppressionC}
