@@ -40,8 +40,8 @@ abbrev pub decided-record : Verdict → AirBoxC → Tick → AirBoxC
 decided-record Accept c k = shut-box (accepted-tick (open-box c) k .state)
 decided-record (Refuse reason) c k = c
 
--- the record `after` stands for the box that the tick gives from the box of `before`; the number and the output after it are those of its answer.
--- A refused tick leaves both records as they were, and an accepted one settles every field, a NaN as being one
+-- the record `after` stands for the box that the tick gives from that of `before`, and the number and the output after it are those of its
+-- answer; a refused tick leaves both records as they were, and an accepted one settles every field, a NaN as being one
 pub record Ticked (before : AirBoxC) (k : Tick) (old-output : ControllerOutput)
     (after : AirBoxC) (output : ControllerOutput) (number : ℕ) : Type 0 where
   pub next-box : open-box after ≡ tick (open-box before) k .state

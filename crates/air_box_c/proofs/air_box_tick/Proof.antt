@@ -1,4 +1,4 @@
--- `air_box_c::air_box_tick` meets its contract, by the law of `lent_laws` for a record whose parts are run in their places, with an output behind a second reference. Assumes nothing.
+-- `air_box_c::air_box_tick` meets its contract, by the law `lent-out-meets` of lent_laws: the parts of a record are run in their places, with an output behind a second reference. Assumes nothing.
 use mathlib.Core.Path.{_≡_}
 use mathlib.Core.Bool.{not}
 use lib.Dec.{T, eqb}
@@ -6,7 +6,9 @@ use contract.Running.{givenOf, tables, tablesOf}
 use denote.Struct.Laws as Struct
 use denote.Triple.Spec.{tripleOf}
 use denote.Triple.Table.{entered, cited}
-use Rattle.lent_laws.proofs.Lent.{PlainType, of-struct, of-u8, Five, FiveLaws, Stage, stage-of, two-laws, StageMeets, lent-out-meets}
+use Rattle.lent_laws.proofs.PlainTypes.{PlainType, of-struct, of-u8, two-laws, Five, FiveLaws}
+use Rattle.lent_laws.proofs.ByValue.{Stage, stage-of, StageMeets}
+use Rattle.lent_laws.proofs.LentOut.{lent-out-meets}
 use Rattle.air_box.specs.declared.Tick.{Tick}
 use Rattle.air_box.proofs.Tick as Tick·
 use Rattle.air_box.proofs.Tick.Laws as Tick′
