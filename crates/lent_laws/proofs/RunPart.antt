@@ -1,4 +1,5 @@
 -- One part of a record behind a `&mut` is read, run by a function by value and stored in its place (`run-part`). Assumes nothing.
+-- The marked part is written by tools/walks/write, from the names in RunPart.walk there.
 use mathlib.Core.Path.{_≡_, refl, sym, subst}
 use Prim.Native.Nat.{ℕ}
 use mathlib.Core.List.{[], _∷_, List}
@@ -47,11 +48,17 @@ module _ {M : Type 1} {𝓤 : URA M} {H : Heap 𝓤} {A : Atoms 𝓤} (W : Given
       ∷ ‵ (fat fullShare (two-shape P Y (s .gives) .τ) lr 0 (two-val P Y (s .gives) y)) ∷ Γ) (runs C Λ E then q))
       → Sq W (‵ (fat fullShare (tyStruct ν τs) b o (vstruct vs)) ∷ ‵ (fat fullShare ρ l₁ 0 (vptr b o)) ∷ ‵ (froom (P .shape .τ) lt 0) ∷ ‵ (fat fullShare (two-shape Q X g .τ) lc 0 (two-val Q X g a))
       ∷ ‵ (froom (two-shape P Y (s .gives) .τ) lr 0) ∷ Γ) (runs C Λ E (runs-part (tyStruct ν τs) j t c r (s .name) then) q)
+  -- walk: written by tools/walks/write
   run-part {lr = lr} j t c r at-j at-1 at-t at-c at-r x is-v is-x a is-a then =
-      assigns ! (of-opd ! (load ! (at-local at-1 (hop ! (look ! 1 refl) (fld ! at-j (stop !)))) (read-as is-v (look-in ! 0 (sub ! j at-j (whole !)))))) (at-local at-t (stop !))
-      (init ! 2 refl (P .lawful 𝓤 H A W .typed x _ is-x .0)) $ owned ! (row P) (Is (row P)) (P .makes 𝓤 H A W) x (P .val x ∷ []) is-x $
-      calls-by-value P X (two-shape P Y (s .gives)) (s .does) W x (g .second a) is-a fm known (and-then ! (load ! (at-local at-t (stop !)) (look ! 3 refl)) (and-then ! (load ! (at-local at-c (fld ! refl (stop !))) (look-in ! 4 (sub ! 1 refl (whole !)))) (no-more !))) (λ y v e is.
+      assigns ! (of-opd ! (load ! (at-local at-1 (hop ! (look ! 1 refl) (fld ! at-j (stop !)))) (read-as is-v (look-in ! 0 (sub ! j at-j (whole !))))))
+      (at-local at-t (stop !)) (init ! 2 refl (P .lawful 𝓤 H A W .typed x _ is-x .0)) $
+      owned ! (row P) (Is (row P)) (P .makes 𝓤 H A W) x (P .val x ∷ []) is-x $
+      calls-by-value P X (two-shape P Y (s .gives)) (s .does) W x (g .second a) is-a fm known (and-then ! (load ! (at-local at-t (stop !)) (look ! 3 refl))
+      (and-then ! (load ! (at-local at-c (fld ! refl (stop !))) (look-in ! 4 (sub ! 1 refl (whole !)))) (no-more !))) (λ y v e is.
       land ! (at-local at-r (stop !)) (init ! 5 refl (s .laws .lawful 𝓤 H A W .typed y _ is .0)) $
-      rewrite ! 5 (λ (u : Val). ‵ (fat fullShare (two-shape P Y (s .gives) .τ) lr 0 u)) (lone-is v (two-val P Y (s .gives) y) (s .laws .tells y (v ∷ []) is)) refl $ drop ! $
-      assigns ! (of-opd ! (load ! (at-local at-r (fld ! refl (stop !))) (look-in ! 4 (sub ! 0 refl (whole !))))) (at-local at-1 (hop ! (look ! 1 refl) (fld ! at-j (stop !))))
-      (store-in ! 0 (sub ! j at-j (whole !)) (P .lawful 𝓤 H A W .typed (s .gives .first y) _ (s .laws .is-first y _ is) .0)) $ then y e (s .laws .is-first y _ is) (s .laws .is-second y _ is))
+      rewrite ! 5 (λ (u : Val). ‵ (fat fullShare (two-shape P Y (s .gives) .τ) lr 0 u)) (lone-is v (two-val P Y (s .gives) y) (s .laws .tells y (v ∷ []) is)) refl $
+      drop ! $ assigns ! (of-opd ! (load ! (at-local at-r (fld ! refl (stop !))) (look-in ! 4 (sub ! 0 refl (whole !)))))
+      (at-local at-1 (hop ! (look ! 1 refl) (fld ! at-j (stop !))))
+      (store-in ! 0 (sub ! j at-j (whole !)) (P .lawful 𝓤 H A W .typed (s .gives .first y) _ (s .laws .is-first y _ is) .0)) $
+      then y e (s .laws .is-first y _ is) (s .laws .is-second y _ is))
+  -- walk: end
