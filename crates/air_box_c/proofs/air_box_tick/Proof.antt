@@ -154,22 +154,46 @@ box-laws = record {
 -- ---- the functions by value, with what each ensures of its result
 
 abbrev question-stage : Stage last-type tick-type of-u8 start-type
-question-stage = stage-of last-type tick-type of-u8 start-type Questioned·.the-type (λ r. r .number) (λ r. r .next) (two-laws of-u8 start-type Questioned·.the-type (λ r. r .number) (λ r. r .next) (Struct.tells Questioned·.the-type Questioned′.the-laws) (λ M 𝓤 H A W. Struct.lawful Questioned·.the-type Questioned′.the-laws 𝓤 H A W .typed) (Struct.owed Questioned·.the-type Questioned′.the-laws)) (λ c x r. r ≡ questioned c x) LastTickC·question.name
+question-stage =
+    stage-of last-type tick-type of-u8 start-type Questioned·.the-type (λ r. r .number) (λ r. r .next)
+    (two-laws of-u8 start-type Questioned·.the-type (λ r. r .number) (λ r. r .next) (Struct.tells Questioned·.the-type Questioned′.the-laws)
+    (λ M 𝓤 H A W. Struct.lawful Questioned·.the-type Questioned′.the-laws 𝓤 H A W .typed) (Struct.owed Questioned·.the-type Questioned′.the-laws))
+    (λ c x r. r ≡ questioned c x) LastTickC·question.name
 
 abbrev suppression-stage : Stage suppression-type start-type suppression-type after-suppression-type
-suppression-stage = stage-of suppression-type start-type suppression-type after-suppression-type SuppressionTick·.the-type (λ r. r .state) (λ r. r .next) (two-laws suppression-type after-suppression-type SuppressionTick·.the-type (λ r. r .state) (λ r. r .next) (Struct.tells SuppressionTick·.the-type SuppressionTick′.the-laws) (λ M 𝓤 H A W. Struct.lawful SuppressionTick·.the-type SuppressionTick′.the-laws 𝓤 H A W .typed) (Struct.owed SuppressionTick·.the-type SuppressionTick′.the-laws)) (λ c x r. r ≡ suppression-tick c x) TimeSuppressionC·tick.name
+suppression-stage =
+    stage-of suppression-type start-type suppression-type after-suppression-type SuppressionTick·.the-type (λ r. r .state) (λ r. r .next)
+    (two-laws suppression-type after-suppression-type SuppressionTick·.the-type (λ r. r .state) (λ r. r .next) (Struct.tells SuppressionTick·.the-type SuppressionTick′.the-laws)
+    (λ M 𝓤 H A W. Struct.lawful SuppressionTick·.the-type SuppressionTick′.the-laws 𝓤 H A W .typed) (Struct.owed SuppressionTick·.the-type SuppressionTick′.the-laws))
+    (λ c x r. r ≡ suppression-tick c x) TimeSuppressionC·tick.name
 
 abbrev airflow-stage : Stage airflow-type after-suppression-type airflow-type after-dampers-type
-airflow-stage = stage-of airflow-type after-suppression-type airflow-type after-dampers-type AirflowTick·.the-type (λ r. r .state) (λ r. r .next) (two-laws airflow-type after-dampers-type AirflowTick·.the-type (λ r. r .state) (λ r. r .next) (Struct.tells AirflowTick·.the-type AirflowTick′.the-laws) (λ M 𝓤 H A W. Struct.lawful AirflowTick·.the-type AirflowTick′.the-laws 𝓤 H A W .typed) (Struct.owed AirflowTick·.the-type AirflowTick′.the-laws)) (λ c x r. r ≡ airflow-tick c x) AirflowC·tick.name
+airflow-stage =
+    stage-of airflow-type after-suppression-type airflow-type after-dampers-type AirflowTick·.the-type (λ r. r .state) (λ r. r .next)
+    (two-laws airflow-type after-dampers-type AirflowTick·.the-type (λ r. r .state) (λ r. r .next) (Struct.tells AirflowTick·.the-type AirflowTick′.the-laws)
+    (λ M 𝓤 H A W. Struct.lawful AirflowTick·.the-type AirflowTick′.the-laws 𝓤 H A W .typed) (Struct.owed AirflowTick·.the-type AirflowTick′.the-laws))
+    (λ c x r. r ≡ airflow-tick c x) AirflowC·tick.name
 
 abbrev requests-stage : Stage requests-type after-dampers-type requests-type after-requests-type
-requests-stage = stage-of requests-type after-dampers-type requests-type after-requests-type RequestsTick·.the-type (λ r. r .state) (λ r. r .next) (two-laws requests-type after-requests-type RequestsTick·.the-type (λ r. r .state) (λ r. r .next) (Struct.tells RequestsTick·.the-type RequestsTick′.the-laws) (λ M 𝓤 H A W. Struct.lawful RequestsTick·.the-type RequestsTick′.the-laws 𝓤 H A W .typed) (Struct.owed RequestsTick·.the-type RequestsTick′.the-laws)) (λ c x r. r ≡ requests-tick c x) SystemRequestsC·tick.name
+requests-stage =
+    stage-of requests-type after-dampers-type requests-type after-requests-type RequestsTick·.the-type (λ r. r .state) (λ r. r .next)
+    (two-laws requests-type after-requests-type RequestsTick·.the-type (λ r. r .state) (λ r. r .next) (Struct.tells RequestsTick·.the-type RequestsTick′.the-laws)
+    (λ M 𝓤 H A W. Struct.lawful RequestsTick·.the-type RequestsTick′.the-laws 𝓤 H A W .typed) (Struct.owed RequestsTick·.the-type RequestsTick′.the-laws))
+    (λ c x r. r ≡ requests-tick c x) SystemRequestsC·tick.name
 
 abbrev alarms-stage : Stage alarms-type after-requests-type alarms-type after-alarms-type
-alarms-stage = stage-of alarms-type after-requests-type alarms-type after-alarms-type AlarmsTick·.the-type (λ r. r .state) (λ r. r .next) (two-laws alarms-type after-alarms-type AlarmsTick·.the-type (λ r. r .state) (λ r. r .next) (Struct.tells AlarmsTick·.the-type AlarmsTick′.the-laws) (λ M 𝓤 H A W. Struct.lawful AlarmsTick·.the-type AlarmsTick′.the-laws 𝓤 H A W .typed) (Struct.owed AlarmsTick·.the-type AlarmsTick′.the-laws)) (λ c x r. r ≡ alarms-tick c x) AlarmsC·tick.name
+alarms-stage =
+    stage-of alarms-type after-requests-type alarms-type after-alarms-type AlarmsTick·.the-type (λ r. r .state) (λ r. r .next)
+    (two-laws alarms-type after-alarms-type AlarmsTick·.the-type (λ r. r .state) (λ r. r .next) (Struct.tells AlarmsTick·.the-type AlarmsTick′.the-laws)
+    (λ M 𝓤 H A W. Struct.lawful AlarmsTick·.the-type AlarmsTick′.the-laws 𝓤 H A W .typed) (Struct.owed AlarmsTick·.the-type AlarmsTick′.the-laws))
+    (λ c x r. r ≡ alarms-tick c x) AlarmsC·tick.name
 
 abbrev last-stage : Stage last-type after-alarms-type last-type output-type
-last-stage = stage-of last-type after-alarms-type last-type output-type LastTick·.the-type (λ r. r .state) (λ r. r .output) (two-laws last-type output-type LastTick·.the-type (λ r. r .state) (λ r. r .output) (Struct.tells LastTick·.the-type LastTick′.the-laws) (λ M 𝓤 H A W. Struct.lawful LastTick·.the-type LastTick′.the-laws 𝓤 H A W .typed) (Struct.owed LastTick·.the-type LastTick′.the-laws)) (λ c x r. r ≡ last-tick c x) LastTickC·tick.name
+last-stage =
+    stage-of last-type after-alarms-type last-type output-type LastTick·.the-type (λ r. r .state) (λ r. r .output)
+    (two-laws last-type output-type LastTick·.the-type (λ r. r .state) (λ r. r .output) (Struct.tells LastTick·.the-type LastTick′.the-laws)
+    (λ M 𝓤 H A W. Struct.lawful LastTick·.the-type LastTick′.the-laws 𝓤 H A W .typed) (Struct.owed LastTick·.the-type LastTick′.the-laws))
+    (λ c x r. r ≡ last-tick c x) LastTickC·tick.name
 
 law-taken : (c : AirBoxC) (k : Tick) (w : ControllerOutput) (a : Questioned) (r₀ : SuppressionTick) (r₁ : AirflowTick) (r₂ : RequestsTick) (r₃ : AlarmsTick) (r₄ : LastTick)
     → a ≡ questioned (c .last) k → T (eqb (a .number) 0) → r₀ ≡ suppression-tick (c .«time_suppression») (a .next) → r₁ ≡ airflow-tick (c .airflow) (r₀ .next) → r₂ ≡ requests-tick (c .«system_requests») (r₁ .next)
@@ -187,9 +211,15 @@ air-box-tick-spec 𝓤 H 𝓜 𝓖 𝓡 =
     (tables 𝓤 H 𝓜 𝓡 code.env .C) (tables 𝓤 H 𝓜 𝓡 code.env .Λ) #f code.function (code.unfolded 𝓤 H 𝓜 𝓡)
     (lent-out-meets suppression-type airflow-type requests-type alarms-type last-type tick-type output-type start-type after-suppression-type after-dampers-type after-requests-type after-alarms-type box box-laws
     question-stage suppression-stage airflow-stage requests-stage alarms-stage last-stage Ticked law-taken law-left 𝓤 H (𝓖 .A) (givenOf 𝓤 H 𝓜 𝓖) (tablesOf 𝓤 H 𝓜 (tables 𝓤 H 𝓜 𝓡 code.env))
-    (cited 𝓤 H (StageMeets last-type tick-type of-u8 start-type question-stage 𝓤 H (𝓖 .A)) 𝓜 𝓡 code.env LastTickC·question.name LastTickC·question.routine code.calls-air-box-c·records·LastTickC·question (LastTickC·question·met.met 𝓤 H 𝓜 𝓖 𝓡))
-    (cited 𝓤 H (StageMeets suppression-type start-type suppression-type after-suppression-type suppression-stage 𝓤 H (𝓖 .A)) 𝓜 𝓡 code.env TimeSuppressionC·tick.name TimeSuppressionC·tick.routine code.calls-air-box-c·records·TimeSuppressionC·tick (TimeSuppressionC·tick·met.met 𝓤 H 𝓜 𝓖 𝓡))
-    (cited 𝓤 H (StageMeets airflow-type after-suppression-type airflow-type after-dampers-type airflow-stage 𝓤 H (𝓖 .A)) 𝓜 𝓡 code.env AirflowC·tick.name AirflowC·tick.routine code.calls-air-box-c·records·AirflowC·tick (AirflowC·tick·met.met 𝓤 H 𝓜 𝓖 𝓡))
-    (cited 𝓤 H (StageMeets requests-type after-dampers-type requests-type after-requests-type requests-stage 𝓤 H (𝓖 .A)) 𝓜 𝓡 code.env SystemRequestsC·tick.name SystemRequestsC·tick.routine code.calls-air-box-c·records·SystemRequestsC·tick (SystemRequestsC·tick·met.met 𝓤 H 𝓜 𝓖 𝓡))
-    (cited 𝓤 H (StageMeets alarms-type after-requests-type alarms-type after-alarms-type alarms-stage 𝓤 H (𝓖 .A)) 𝓜 𝓡 code.env AlarmsC·tick.name AlarmsC·tick.routine code.calls-air-box-c·records·AlarmsC·tick (AlarmsC·tick·met.met 𝓤 H 𝓜 𝓖 𝓡))
-    (cited 𝓤 H (StageMeets last-type after-alarms-type last-type output-type last-stage 𝓤 H (𝓖 .A)) 𝓜 𝓡 code.env LastTickC·tick.name LastTickC·tick.routine code.calls-air-box-c·records·LastTickC·tick (LastTickC·tick·met.met 𝓤 H 𝓜 𝓖 𝓡)))
+    (cited 𝓤 H (StageMeets last-type tick-type of-u8 start-type question-stage 𝓤 H (𝓖 .A))
+    𝓜 𝓡 code.env LastTickC·question.name LastTickC·question.routine code.calls-air-box-c·records·LastTickC·question (LastTickC·question·met.met 𝓤 H 𝓜 𝓖 𝓡))
+    (cited 𝓤 H (StageMeets suppression-type start-type suppression-type after-suppression-type suppression-stage 𝓤 H (𝓖 .A))
+    𝓜 𝓡 code.env TimeSuppressionC·tick.name TimeSuppressionC·tick.routine code.calls-air-box-c·records·TimeSuppressionC·tick (TimeSuppressionC·tick·met.met 𝓤 H 𝓜 𝓖 𝓡))
+    (cited 𝓤 H (StageMeets airflow-type after-suppression-type airflow-type after-dampers-type airflow-stage 𝓤 H (𝓖 .A))
+    𝓜 𝓡 code.env AirflowC·tick.name AirflowC·tick.routine code.calls-air-box-c·records·AirflowC·tick (AirflowC·tick·met.met 𝓤 H 𝓜 𝓖 𝓡))
+    (cited 𝓤 H (StageMeets requests-type after-dampers-type requests-type after-requests-type requests-stage 𝓤 H (𝓖 .A))
+    𝓜 𝓡 code.env SystemRequestsC·tick.name SystemRequestsC·tick.routine code.calls-air-box-c·records·SystemRequestsC·tick (SystemRequestsC·tick·met.met 𝓤 H 𝓜 𝓖 𝓡))
+    (cited 𝓤 H (StageMeets alarms-type after-requests-type alarms-type after-alarms-type alarms-stage 𝓤 H (𝓖 .A))
+    𝓜 𝓡 code.env AlarmsC·tick.name AlarmsC·tick.routine code.calls-air-box-c·records·AlarmsC·tick (AlarmsC·tick·met.met 𝓤 H 𝓜 𝓖 𝓡))
+    (cited 𝓤 H (StageMeets last-type after-alarms-type last-type output-type last-stage 𝓤 H (𝓖 .A))
+    𝓜 𝓡 code.env LastTickC·tick.name LastTickC·tick.routine code.calls-air-box-c·records·LastTickC·tick (LastTickC·tick·met.met 𝓤 H 𝓜 𝓖 𝓡)))

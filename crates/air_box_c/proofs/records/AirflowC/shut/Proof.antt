@@ -4,7 +4,10 @@ use Rattle.air_box_c.proofs.records.AirflowC.shut.Statement.{statement}
 use Rattle.air_box_c.proofs.records.AirflowC.shut.Tie as tie
 
 returns : tie.Need-returns
-returns c = rw (c .shut2 .ensures, c .before .shut .ensures)
+returns c =
+    let at-dampers = c in
+    let at-control-loops = at-dampers .before in
+    rw (at-dampers .shut2 .ensures, at-control-loops .shut .ensures)
 
 pub shut-spec : {M : Type 1} → statement M
 shut-spec = tie.close (tie.spec (λ c κs. search needs) (λ c κs. search needs) returns)

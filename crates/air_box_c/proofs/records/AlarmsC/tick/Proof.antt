@@ -4,7 +4,20 @@ use Rattle.air_box_c.proofs.records.AlarmsC.tick.Statement.{statement}
 use Rattle.air_box_c.proofs.records.AlarmsC.tick.Tie as tie
 
 returns : tie.Need-returns
-returns c = rw (c .outputs .ensures, c .before .before .shut .ensures, c .before .before .before .output .ensures, c .before .before .before .before .alarm-input .ensures, c .before .before .before .before .before .«open» .ensures)
+returns c =
+    let at-output = c in
+    let at-alarms = at-output .before in
+    let at-state = at-alarms .before in
+    let at-step = at-state .before in
+    let at-alarm-input = at-step .before in
+    let at-s = at-alarm-input .before in
+    rw (
+      at-output .outputs .ensures,
+      at-state .shut .ensures,
+      at-step .output .ensures,
+      at-alarm-input .alarm-input .ensures,
+      at-s .«open» .ensures,
+    )
 
 pub tick-spec : {M : Type 1} → statement M
 tick-spec =

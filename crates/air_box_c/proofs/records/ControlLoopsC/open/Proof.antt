@@ -6,7 +6,12 @@ use Rattle.air_box_c.proofs.records.ControlLoopsC.open.Tie as tie
 
 returns : tie.Need-returns
 unfolding open-control-loops
-returns c = rw (c .open4 .ensures, c .before .open3 .ensures, c .before .before .open2 .ensures, c .before .before .before .«open» .ensures)
+returns c =
+    let at-heating-delay = c in
+    let at-cooling-delay = at-heating-delay .before in
+    let at-heating-pi = at-cooling-delay .before in
+    let at-cooling-pi = at-heating-pi .before in
+    rw (at-heating-delay .open4 .ensures, at-cooling-delay .open3 .ensures, at-heating-pi .open2 .ensures, at-cooling-pi .«open» .ensures)
 
 pub open-spec : {M : Type 1} → statement M
 open-spec =

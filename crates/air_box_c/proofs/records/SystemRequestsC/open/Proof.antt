@@ -6,7 +6,15 @@ use Rattle.air_box_c.proofs.records.SystemRequestsC.open.Tie as tie
 
 returns : tie.Need-returns
 unfolding open-system-requests
-returns c = rw (c .open3 .ensures, c .before .before .before .before .before .open2 .ensures, c .before .before .before .before .before .before .«open» .ensures)
+returns c =
+    let at-damper-delay = c in
+    let at-damper-sampler = at-damper-delay .before in
+    let at-discharge-sampler = at-damper-sampler .before in
+    let at-setpoint-sampler = at-discharge-sampler .before in
+    let at-cooling-sampler = at-setpoint-sampler .before in
+    let at-hot-two-delay = at-cooling-sampler .before in
+    let at-hot-three-delay = at-hot-two-delay .before in
+    rw (at-damper-delay .open3 .ensures, at-hot-two-delay .open2 .ensures, at-hot-three-delay .«open» .ensures)
 
 pub open-spec : {M : Type 1} → statement M
 open-spec = tie.close (tie.spec (λ c κs. search needs) (λ c κs. search needs) (λ c κs. search needs) returns)
