@@ -12,9 +12,10 @@ use Rattle.air_box.specs.declared.Answer.the-variants.{Accepted, Refused}
 use Rattle.air_box.specs.declared.Refusal.{Refusal}
 use Rattle.air_box.specs.declared.Verdict.{Verdict}
 use Rattle.air_box.specs.declared.Verdict.the-variants.{Accept, Refuse}
-use Rattle.air_box_c.specs.Records.{open-time, open-box, answer-number, Ticked, OneOutcome}
+use Rattle.air_box_c.specs.Records.{open-time, open-box}
+use Rattle.air_box_c.specs.Promises.{answer-number, Ticked, OneOutcome}
 use Rattle.air_box_c.specs.Demand1InC.{Demand1InC}
-use Rattle.air_box_c.specs.declared.AirBoxC.{AirBoxC}
+use Rattle.air_box_c.specs.declared.records.AirBoxC.{AirBoxC}
 use Rattle.air_box_c.proofs.ByParts.{ticks, told-is, not-zero}
 
 -- the questions are asked of the box that the record stands for

@@ -14,8 +14,9 @@ use Rattle.cooling_only_controller.specs.declared.ControllerState.{ControllerSt
 use Rattle.air_box.specs.AirBox.{delay-on-init}
 use Rattle.air_box.specs.declared.Start.{Start}
 use Rattle.air_box.specs.declared.Start.the-variants.{Plain, Quiet}
-use Rattle.air_box_c.specs.declared.LastTickC.{LastTickC}
-use Rattle.air_box_c.specs.Records.{open-time, shut-time, open-true-delay, shut-true-delay, open-timer, shut-timer, open-time-suppression, shut-time-suppression, open-loop-pi, shut-loop-pi, open-control-loops, shut-control-loops, open-damper, shut-damper, open-system-requests, shut-system-requests, open-alarms, shut-alarms, open-controller, shut-state, start-of, open-box, shut-box, OpenShut}
+use Rattle.air_box_c.specs.declared.records.LastTickC.{LastTickC}
+use Rattle.air_box_c.specs.Records.{open-time, shut-time, open-true-delay, shut-true-delay, open-timer, shut-timer, open-time-suppression, shut-time-suppression, open-loop-pi, shut-loop-pi, open-control-loops, shut-control-loops, open-damper, shut-damper, open-system-requests, shut-system-requests, open-alarms, shut-alarms, open-controller, shut-state, start-of, open-box, shut-box}
+use Rattle.air_box_c.specs.Promises.{OpenShut}
 
 open-shut-time : (s : OptionalTime) → open-time (shut-time s) ≡ s
 unfolding open-time

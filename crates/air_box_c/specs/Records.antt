@@ -1,6 +1,5 @@
--- The records of the C interface: what box each stands for (`open`), and the record of a box (`shut`). An absent time is the flag false; the number beside it then has no meaning, and `shut` writes 0 there.
-use Prim.Native.Nat.{ℕ}
-use mathlib.Core.Path.{_≡_}
+-- The records of the C interface: what state each stands for (`open`), and the record of a state (`shut`), from the time to the box.
+-- An absent time is the flag false; the number beside it then has no meaning, and `shut` writes 0 there.
 use mathlib.Core.Bool.{Bool, true, false}
 use Rattle.f64_helpers.specs.F64.{zero, if_then_else_}
 use Rattle.cdl_recurrences.specs.declared.OptionalTime.{OptionalTime}
@@ -16,29 +15,23 @@ use Rattle.cooling_only_controller_airflow.specs.declared.DamperState.{DamperSt
 use Rattle.cooling_only_controller_airflow.specs.declared.SystemRequestsState.{SystemRequestsState}
 use Rattle.cooling_only_controller_airflow.specs.declared.AlarmsState.{AlarmsState}
 use Rattle.cooling_only_controller.specs.declared.ControllerState.{ControllerState}
-use Rattle.cooling_only_controller.specs.declared.ControllerOutput.{ControllerOutput}
 use Rattle.cooling_only_controller.specs.Controller.{fresh-controller}
-use Rattle.air_box.specs.AirBox.{tick, fresh-box, questions, accepted-tick, refusal-number, delay-on-init}
-use Rattle.air_box.specs.declared.Tick.{Tick}
+use Rattle.air_box.specs.AirBox.{delay-on-init}
 use Rattle.air_box.specs.declared.Start.{Start}
 use Rattle.air_box.specs.declared.Start.the-variants.{Plain, Quiet}
 use Rattle.air_box.specs.declared.AirBox.{AirBox}
-use Rattle.air_box.specs.declared.Answer.{Answer}
-use Rattle.air_box.specs.declared.Answer.the-variants.{Accepted, Refused}
-use Rattle.air_box.specs.declared.Verdict.{Verdict}
-use Rattle.air_box.specs.declared.Verdict.the-variants.{Accept, Refuse}
-use Rattle.air_box_c.specs.declared.OptionalTimeC.{OptionalTimeC}
-use Rattle.air_box_c.specs.declared.TrueDelayC.{TrueDelayC}
-use Rattle.air_box_c.specs.declared.TimerC.{TimerC}
-use Rattle.air_box_c.specs.declared.TimeSuppressionC.{TimeSuppressionC}
-use Rattle.air_box_c.specs.declared.LoopPiC.{LoopPiC}
-use Rattle.air_box_c.specs.declared.ControlLoopsC.{ControlLoopsC}
-use Rattle.air_box_c.specs.declared.DamperC.{DamperC}
-use Rattle.air_box_c.specs.declared.SystemRequestsC.{SystemRequestsC}
-use Rattle.air_box_c.specs.declared.AlarmsC.{AlarmsC}
-use Rattle.air_box_c.specs.declared.AirflowC.{AirflowC}
-use Rattle.air_box_c.specs.declared.LastTickC.{LastTickC}
-use Rattle.air_box_c.specs.declared.AirBoxC.{AirBoxC}
+use Rattle.air_box_c.specs.declared.records.OptionalTimeC.{OptionalTimeC}
+use Rattle.air_box_c.specs.declared.records.TrueDelayC.{TrueDelayC}
+use Rattle.air_box_c.specs.declared.records.TimerC.{TimerC}
+use Rattle.air_box_c.specs.declared.records.TimeSuppressionC.{TimeSuppressionC}
+use Rattle.air_box_c.specs.declared.records.LoopPiC.{LoopPiC}
+use Rattle.air_box_c.specs.declared.records.ControlLoopsC.{ControlLoopsC}
+use Rattle.air_box_c.specs.declared.records.DamperC.{DamperC}
+use Rattle.air_box_c.specs.declared.records.SystemRequestsC.{SystemRequestsC}
+use Rattle.air_box_c.specs.declared.records.AlarmsC.{AlarmsC}
+use Rattle.air_box_c.specs.declared.records.AirflowC.{AirflowC}
+use Rattle.air_box_c.specs.declared.records.LastTickC.{LastTickC}
+use Rattle.air_box_c.specs.declared.records.AirBoxC.{AirBoxC}
 
 unfoldable pub open-time : OptionalTimeC → OptionalTime
 open-time c = if c .present then At (c .time) else Absent
@@ -238,9 +231,14 @@ open-controller c = record {
 
 -- the part of the states from the control loops to the damper
 abbrev pub shut-airflow : ControlLoopsState → SetpointsState → ZoneStatesState → DamperState → AirflowC
-shut-airflow loops setpoints zone-states damper = record { «control_loops» = shut-control-loops loops; setpoints = setpoints; «zone_states» = zone-states; dampers = shut-damper damper }
+shut-airflow loops setpoints zone-states damper = record {
+  «control_loops» = shut-control-loops loops;
+  setpoints = setpoints;
+  «zone_states» = zone-states;
+  dampers = shut-damper damper;
+}
 
--- ---- the box and the answer
+-- ---- the box
 
 abbrev pub start-of : Bool → Start
 start-of true = Quiet
@@ -248,16 +246,6 @@ start-of false = Plain
 
 unfoldable pub open-box : AirBoxC → AirBox
 open-box c = record { state = open-controller c; «last_time» = open-time (c .last .time); start = start-of (c .last .quiet) }
-
--- what a tick returns: document 01's number, and 0 for an accepted tick
-abbrev pub answer-number : Answer → ℕ
-answer-number (Accepted output) = 0
-answer-number (Refused reason) = refusal-number reason
-
--- the output record after a tick: the tick's outputs, or what it was
-abbrev pub answer-output : Answer → ControllerOutput → ControllerOutput
-answer-output (Accepted output) before = output
-answer-output (Refused reason) before = before
 
 -- the record of a state, with what stands beside it
 abbrev pub shut-state : ControllerState → LastTickC → AirBoxC
@@ -272,39 +260,6 @@ shut-state s last-part = record {
 unfoldable pub shut-box : AirBox → AirBoxC
 shut-box box = shut-state (box .state) (record { time = shut-time (box .«last_time»); quiet = delay-on-init (box .start) })
 
--- what the questions decide, as a number
-abbrev pub verdict-number : Verdict → ℕ
-verdict-number Accept = 0
-verdict-number (Refuse reason) = refusal-number reason
-
--- the record after a tick, by what the questions decide: that of the next box, or the old one
-abbrev pub decided-record : Verdict → AirBoxC → Tick → AirBoxC
-decided-record Accept c k = shut-box (accepted-tick (open-box c) k .state)
-decided-record (Refuse reason) c k = c
-
 -- the record of a box that has had no tick
 abbrev pub fresh-record : Bool → AirBoxC
 fresh-record quiet = shut-state fresh-controller (record { time = shut-time Absent; quiet = quiet })
-
--- ---- what is promised
-
--- the record of a box stands for that box
-abbrev pub OpenShut : Type 0
-OpenShut = (s : AirBox) → open-box (shut-box s) ≡ s
-
--- the record `after` stands for the box that the tick gives from the box of `before`; the number and the output after it are those of its answer. A refused tick leaves both records as they were, and an accepted one settles every field, a NaN as being one
-pub record Ticked (before : AirBoxC) (k : Tick) (old-output : ControllerOutput) (after : AirBoxC) (output : ControllerOutput) (number : ℕ) : Type 0 where
-  pub next-box : open-box after ≡ tick (open-box before) k .state
-  pub next-output : output ≡ answer-output (tick (open-box before) k .answer) old-output
-  pub number-told : number ≡ answer-number (tick (open-box before) k .answer)
-  pub every-field : after ≡ decided-record (questions (open-time (before .last .time)) k) before k
-
--- that leaves no freedom: two outcomes of the same tick are the same
-abbrev pub OneOutcome : Type 0
-OneOutcome = (before : AirBoxC) (k : Tick) (old-output : ControllerOutput) (after after′ : AirBoxC) (output output′ : ControllerOutput) (number number′ : ℕ)
-    → Ticked before k old-output after output number → Ticked before k old-output after′ output′ number′ → (after ≡ after′) × (output ≡ output′) × (number ≡ number′)
-
--- the record r stands for a box that has had no tick; every field of it is settled
-pub record Fresh (quiet : Bool) (r : AirBoxC) : Type 0 where
-  pub box : open-box r ≡ fresh-box (start-of quiet)
-  pub every-field : r ≡ fresh-record quiet

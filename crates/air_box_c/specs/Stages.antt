@@ -1,28 +1,39 @@
--- One tick over the record of the C interface, part by part. Each stage gives its part afterwards, beside what it hands on to the next; `ByParts.antt` shows that together they are the tick of the box.
+-- One tick over the record of the C interface, part by part. Each stage gives its part afterwards, beside what it hands on to the next;
+-- `ByParts.antt` shows that together they are the tick of the box.
+use Prim.Native.Nat.{ℕ}
 use mathlib.Core.Bool.{true}
 use Rattle.cooling_only_controller_conditioning.specs.Conditioning.{time-suppression}
 use Rattle.cooling_only_controller_airflow.specs.Airflow.{system-requests, alarms}
-use Rattle.cooling_only_controller.specs.Controller.{airflow-steps, request-input, alarm-input, outputs}
+use Rattle.cooling_only_controller.specs.ControllerPieces.{airflow-steps, request-input, alarm-input, outputs}
 use Rattle.cooling_only_controller.specs.declared.AirflowSteps.{AirflowSteps}
-use Rattle.air_box.specs.AirBox.{questions}
+use Rattle.air_box.specs.AirBox.{questions, refusal-number}
 use Rattle.air_box.specs.declared.Tick.{Tick}
-use Rattle.air_box_c.specs.Records.{open-time, open-time-suppression, shut-time-suppression, open-control-loops, open-damper, shut-airflow, open-system-requests, shut-system-requests, open-alarms, shut-alarms, verdict-number}
-use Rattle.air_box_c.specs.declared.TimeSuppressionC.{TimeSuppressionC}
-use Rattle.air_box_c.specs.declared.AirflowC.{AirflowC}
-use Rattle.air_box_c.specs.declared.SystemRequestsC.{SystemRequestsC}
-use Rattle.air_box_c.specs.declared.AlarmsC.{AlarmsC}
-use Rattle.air_box_c.specs.declared.LastTickC.{LastTickC}
-use Rattle.air_box_c.specs.declared.Questioned.{Questioned}
-use Rattle.air_box_c.specs.declared.TickStart.{TickStart}
-use Rattle.air_box_c.specs.declared.AfterSuppression.{AfterSuppression}
-use Rattle.air_box_c.specs.declared.SuppressionTick.{SuppressionTick}
-use Rattle.air_box_c.specs.declared.AfterDampers.{AfterDampers}
-use Rattle.air_box_c.specs.declared.AirflowTick.{AirflowTick}
-use Rattle.air_box_c.specs.declared.AfterRequests.{AfterRequests}
-use Rattle.air_box_c.specs.declared.RequestsTick.{RequestsTick}
-use Rattle.air_box_c.specs.declared.AfterAlarms.{AfterAlarms}
-use Rattle.air_box_c.specs.declared.AlarmsTick.{AlarmsTick}
-use Rattle.air_box_c.specs.declared.LastTick.{LastTick}
+use Rattle.air_box.specs.declared.Verdict.{Verdict}
+use Rattle.air_box.specs.declared.Verdict.the-variants.{Accept, Refuse}
+use Rattle.air_box_c.specs.Records.{open-time, open-time-suppression, shut-time-suppression}
+use Rattle.air_box_c.specs.Records.{open-control-loops, open-damper, shut-airflow}
+use Rattle.air_box_c.specs.Records.{open-system-requests, shut-system-requests, open-alarms, shut-alarms}
+use Rattle.air_box_c.specs.declared.records.TimeSuppressionC.{TimeSuppressionC}
+use Rattle.air_box_c.specs.declared.records.AirflowC.{AirflowC}
+use Rattle.air_box_c.specs.declared.records.SystemRequestsC.{SystemRequestsC}
+use Rattle.air_box_c.specs.declared.records.AlarmsC.{AlarmsC}
+use Rattle.air_box_c.specs.declared.records.LastTickC.{LastTickC}
+use Rattle.air_box_c.specs.declared.stages.Questioned.{Questioned}
+use Rattle.air_box_c.specs.declared.stages.TickStart.{TickStart}
+use Rattle.air_box_c.specs.declared.stages.AfterSuppression.{AfterSuppression}
+use Rattle.air_box_c.specs.declared.stages.SuppressionTick.{SuppressionTick}
+use Rattle.air_box_c.specs.declared.stages.AfterDampers.{AfterDampers}
+use Rattle.air_box_c.specs.declared.stages.AirflowTick.{AirflowTick}
+use Rattle.air_box_c.specs.declared.stages.AfterRequests.{AfterRequests}
+use Rattle.air_box_c.specs.declared.stages.RequestsTick.{RequestsTick}
+use Rattle.air_box_c.specs.declared.stages.AfterAlarms.{AfterAlarms}
+use Rattle.air_box_c.specs.declared.stages.AlarmsTick.{AlarmsTick}
+use Rattle.air_box_c.specs.declared.stages.LastTick.{LastTick}
+
+-- what the questions decide, as a number: 0 where they accept
+abbrev pub verdict-number : Verdict → ℕ
+verdict-number Accept = 0
+verdict-number (Refuse reason) = refusal-number reason
 
 -- the questions
 abbrev pub questioned : LastTickC → Tick → Questioned
@@ -40,13 +51,20 @@ abbrev pub airflow-ticked : AfterSuppression → AirflowSteps → AirflowTick
 airflow-ticked suppression steps =
     record {
       state = shut-airflow (steps .loops .state) (steps .setpoints .state) (steps .zone .state) (steps .damper .state);
-      next = record { suppression = suppression; loops = steps .loops .output; flows = steps .setpoints .output; damper = steps .damper .output };
+      next = record {
+        suppression = suppression;
+        loops = steps .loops .output;
+        flows = steps .setpoints .output;
+        damper = steps .damper .output;
+      };
     }
 
 abbrev pub airflow-tick : AirflowC → AfterSuppression → AirflowTick
 airflow-tick c suppression =
     let k = suppression .start .tick in
-    airflow-ticked suppression (airflow-steps (k .t) (k .input) (open-control-loops (c .«control_loops»)) (c .setpoints) (c .«zone_states») (open-damper (c .dampers)))
+    let loops = open-control-loops (c .«control_loops») in
+    let damper = open-damper (c .dampers) in
+    airflow-ticked suppression (airflow-steps (k .t) (k .input) loops (c .setpoints) (c .«zone_states») damper)
 
 -- the system requests
 abbrev pub requests-tick : SystemRequestsC → AfterDampers → RequestsTick
@@ -62,7 +80,8 @@ alarms-tick c after =
     let airflow = after .airflow in
     let start = airflow .suppression .start in
     let step = alarms (open-alarms c) (start .tick .t) (alarm-input (start .tick .input) (airflow .damper)) (start .quiet) in
-    record { state = shut-alarms (step .state); next = record { t = start .tick .t; output = outputs (airflow .damper) (airflow .flows) (after .requests) (step .output) } }
+    let output = outputs (airflow .damper) (airflow .flows) (after .requests) (step .output) in
+    record { state = shut-alarms (step .state); next = record { t = start .tick .t; output = output } }
 
 -- the time of an accepted tick, and its outputs
 abbrev pub last-tick : LastTickC → AfterAlarms → LastTick

@@ -6,7 +6,8 @@ use Rattle.air_box_c.proofs.air_box_desk_code.Tie as tie
 
 returns : tie.Need-returns
 returns c =
-    rw (toZ-ofZ (c .before .fits .low-airflow), toZ-ofZ (c .before .fits .airflow-sensor), toZ-ofZ (c .before .fits .leaking-damper)) at (c .desk-code .ensures)
+    let at-entry = c .before in
+    rw (toZ-ofZ (at-entry .fits .low-airflow), toZ-ofZ (at-entry .fits .airflow-sensor), toZ-ofZ (at-entry .fits .leaking-damper)) at (c .desk-code .ensures)
 
 pub air-box-desk-code-spec : {M : Type 1} → statement M
 air-box-desk-code-spec = tie.close (tie.spec (λ c κs. search needs) returns)

@@ -9,11 +9,19 @@ use Rattle.air_box_c.proofs.air_box_fresh.Tie as tie
 
 returns : tie.Need-returns
 unfolding open-box open-time
-returns c = let quiet = c .before .before .before .before .before .before .args .quiet in record {
-  box = rw (c .shut5 .ensures, c .before .shut4 .ensures, c .before .before .shut3 .ensures, c .before .before .before .shut2 .ensures, c .before .before .before .before .shut .ensures, c .before .before .before .before .before .fresh .ensures)
-      (λ i. record { state = open-shut-controller fresh-controller (fresh-record quiet .last) i; «last_time» = Absent; start = start-of quiet });
-  every-field = rw (c .shut5 .ensures, c .before .shut4 .ensures, c .before .before .shut3 .ensures, c .before .before .before .shut2 .ensures, c .before .before .before .before .shut .ensures, c .before .before .before .before .before .fresh .ensures);
-}
+returns c =
+    let at-time = c in
+    let at-alarms = at-time .before in
+    let at-system-requests = at-alarms .before in
+    let at-airflow = at-system-requests .before in
+    let at-time-suppression = at-airflow .before in
+    let at-s = at-time-suppression .before in
+    let quiet = at-s .before .args .quiet in
+    record {
+      box = rw (at-time .shut5 .ensures, at-alarms .shut4 .ensures, at-system-requests .shut3 .ensures, at-airflow .shut2 .ensures, at-time-suppression .shut .ensures, at-s .fresh .ensures)
+          (λ i. record { state = open-shut-controller fresh-controller (fresh-record quiet .last) i; «last_time» = Absent; start = start-of quiet });
+      every-field = rw (at-time .shut5 .ensures, at-alarms .shut4 .ensures, at-system-requests .shut3 .ensures, at-airflow .shut2 .ensures, at-time-suppression .shut .ensures, at-s .fresh .ensures);
+    }
 
 pub air-box-fresh-spec : {M : Type 1} → statement M
 air-box-fresh-spec =

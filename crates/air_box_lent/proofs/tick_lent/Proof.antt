@@ -1,10 +1,12 @@
--- `air_box_lent::tick_lent` meets its contract, by the law of `lent`. Assumes nothing.
+-- `air_box_lent::tick_lent` meets its contract, by the law `lent-tick-meets` of lent_laws. Assumes nothing.
 use mathlib.Core.Path.{_≡_, ap}
 use contract.Running.{givenOf, tables, tablesOf}
 use denote.Struct.Laws as Struct
 use denote.Triple.Spec.{tripleOf}
 use denote.Triple.Table.{entered, cited}
-use Rattle.lent.proofs.Lent.{PlainType, of-struct, of-enum, Two, two-of, two-laws, TwoLaws, two-shape, ByValue, lent-tick-meets}
+use Rattle.lent_laws.proofs.PlainTypes.{PlainType, of-struct, of-enum, Two, two-of, two-laws, TwoLaws, two-shape}
+use Rattle.lent_laws.proofs.ByValue.{ByValue}
+use Rattle.lent_laws.proofs.LentTick.{lent-tick-meets}
 use Rattle.air_box.specs.AirBox as AirBoxes
 use Rattle.air_box.specs.declared.AirBox.{AirBox}
 use Rattle.air_box.specs.declared.AirBoxStep.{AirBoxStep}
