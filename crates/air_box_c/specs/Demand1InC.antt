@@ -4,11 +4,12 @@
 -- and says that it leaves the records as `Ticked` has them.
 use Prim.Native.Nat.{ℕ}
 use mathlib.Core.Path.{_≡_}
+use mathlib.Core.Logic.{_↔_}
 use mathlib.Core.Bool.{not}
 use lib.Dec.{T, eqb}
 use Rattle.cooling_only_controller.specs.declared.ControllerOutput.{ControllerOutput}
 use Rattle.air_box.specs.AirBox.{tick, refusal-number}
-use Rattle.air_box.specs.Demand1.{yes, FirstNo}
+use Rattle.air_box.specs.Demand1.{AllYes, FirstNo}
 use Rattle.air_box.specs.declared.Tick.{Tick}
 use Rattle.air_box.specs.declared.Answer.the-variants.{Accepted}
 use Rattle.air_box.specs.declared.Refusal.{Refusal}
@@ -21,8 +22,8 @@ pub record ByNumber (before : AirBoxC) (k : Tick) (old-output : ControllerOutput
     (after : AirBoxC) (output : ControllerOutput) (number : ℕ) : Type 0 where
   -- the number is that of the question that gets the first "no"
   pub number-of-the-first-no : (reason : Refusal) → FirstNo reason (open-time (before .last .time)) k → number ≡ refusal-number reason
-  -- where every question gets a "yes", the number is 0
-  pub all-yes : ((reason : Refusal) → T (yes reason (open-time (before .last .time)) k)) → number ≡ 0
+  -- the number is 0 exactly if every question gets a "yes"
+  pub zero-if-all-yes : (number ≡ 0) ↔ AllYes (open-time (before .last .time)) k
   -- where the number is not 0, it is that of a question that gets the first "no": a tick is refused for nothing else
   pub refused-only-for-a-no : T (not (eqb number 0))
       → (reason : Refusal) × FirstNo reason (open-time (before .last .time)) k × (number ≡ refusal-number reason)
