@@ -37,14 +37,6 @@ less-hysteretic u1 u2 h previous = (not previous && (u1 <ᶠ u2)) || (previous &
 unfoldable pub greater-hysteretic : Float → Float → Float → Bool → Bool
 greater-hysteretic u1 u2 h previous = (not previous && (u1 >ᶠ u2)) || (previous && (u1 >ᶠ u2 ⊖ h))
 
--- The last three cases of Rust `true_delay_output`: the input is true, and it is not the first tick.
-unfoldable pub true-delay-running : Float → Float → Float → Bool → Bool → Float → TrueDelayOutput
-true-delay-running t delay previous-time prev-u held timer =
-    let next-timer = timer ⊕ max (t ⊖ previous-time) zero in
-    if held then record { output = true; timer = delay }
-    else if not prev-u then record { output = delay ≤ᶠ zero; timer = zero }
-    else record { output = next-timer ≥ᶠ delay; timer = next-timer }
-
 -- Rust `true_delay_output`; CDL.Logical.TrueDelay. A rising input is passed on once it has been true for the delay, a falling one at once.
 -- A first input that is true is passed on at once, unless `delay-on-init` and the delay is above 0: then it counts as rising there.
 unfoldable pub true-delay-output : Float → Bool → Float → Bool → OptionalTime → Bool → Bool → Float → TrueDelayOutput
@@ -53,7 +45,11 @@ true-delay-output t true delay-time delay-on-init Absent prev-u held timer =
     let delay = max delay-time zero in
     if delay-on-init && (delay >ᶠ zero) then record { output = false; timer = zero } else record { output = true; timer = delay }
 true-delay-output t true delay-time delay-on-init (At previous-time) prev-u held timer =
-    true-delay-running t (max delay-time zero) previous-time prev-u held timer
+    let delay = max delay-time zero in
+    let next-timer = timer ⊕ max (t ⊖ previous-time) zero in
+    if held then record { output = true; timer = delay }
+    else if not prev-u then record { output = delay ≤ᶠ zero; timer = zero }
+    else record { output = next-timer ≥ᶠ delay; timer = next-timer }
 
 -- Rust `buildings_round_six`: to six decimals, a half away from 0
 unfoldable pub buildings-round-six : Float → Float

@@ -14,7 +14,7 @@ use Rattle.f64_helpers.specs.Helpers.{max, negative}
 use Rattle.f64_helpers.specs.Seconds.{Whole, seconds, IsTime, NotNegative, seconds-up}
 use Rattle.f64_helpers.proofs.WholeSeconds.{zero-whole, add-whole, sub-whole, le-whole, max-whole, same-test, Reach, reach-any}
 use Rattle.f64_helpers.proofs.Order.{le-trans, lt→le, eq→le, le-numbers, lt-is-not-le}
-use Rattle.cdl_recurrences.specs.CdlRecurrences.{true-delay-output, true-delay-running}
+use Rattle.cdl_recurrences.specs.CdlRecurrences.{true-delay-output}
 use Rattle.cdl_recurrences.specs.DeadBand.{Related}
 use Rattle.cdl_recurrences.specs.declared.OptionalTime.{OptionalTime}
 use Rattle.cdl_recurrences.specs.declared.OptionalTime.the-variants.{Absent, At}
@@ -152,7 +152,7 @@ module _ (delay-time : Float) (d : ℕ) (reach : Reach delay-time d) where
   -- it is true at a later sample, after one at p
   running : (delay-on-init : Bool) (h : List Sample) (t p : Float) (i b : Bool) (x : Float) → IsTime t → IsTime p → seconds p ≤ seconds t → Right d delay-on-init h p i b x
       → RightOutput d delay-on-init (sample p i ∷ h) t true (true-delay-output t true delay-time delay-on-init (At p) i b x)
-  unfolding true-delay-output true-delay-running
+  unfolding true-delay-output
   running delay-on-init h t p i true x it ip l g =
       ((λ q. (tt, inr (true-since-later d delay-on-init (seconds p) (seconds t) l (sample p i ∷ h) (g .0 .0 tt))), λ o. tt), λ q r. absurd r)
   running delay-on-init h t p false false x it ip l g =
