@@ -1,1 +1,2 @@
 pub mod Controller
+pub mod ControllerPieces

@@ -1,6 +1,7 @@
 // The whole controller of cooling_only_controller.rs: its records, and `output` in its order of stages.
 ghost use mathlib.Core.Path.{_≡_};
 ghost use Rattle.cooling_only_controller.specs.Controller as Controller;
+ghost use Rattle.cooling_only_controller.specs.ControllerPieces as ControllerPieces;
 use cooling_only_controller_airflow::AlarmInput;
 use cooling_only_controller_airflow::AlarmOutput;
 use cooling_only_controller_airflow::AlarmsState;
@@ -107,7 +108,7 @@ impl ControllerState {
     pub fn output(self, t: f64, input: ControllerInput, delay_on_init: bool) -> ControllerStep
         ensures { λ r. ⌜ r ≡ Controller.controller-output self t input «delay_on_init» ⌝ }
     {
-        let suppressed = self.time_suppression
+        let after_suppression = self.time_suppression
             .output(t, input.cooling_setpoint, input.zone_temperature);
         let loops = self.control_loops;
         let setpoints = self.setpoints;
@@ -116,11 +117,11 @@ impl ControllerState {
         let air = airflow_steps(t, input, loops, setpoints, zone, dampers);
         let loop_output = air.loops.output;
         let flow = air.damper.output;
-        let wanted = request_input(input, suppressed.output, loop_output, flow);
+        let wanted = request_input(input, after_suppression.output, loop_output, flow);
         let requests = self.system_requests.output(t, wanted, delay_on_init);
         let alarms = self.alarms
             .output(t, alarm_input(input, flow), delay_on_init);
-        controller_step(suppressed, air, requests, alarms)
+        controller_step(after_suppression, air, requests, alarms)
     }
 }
 
@@ -133,7 +134,7 @@ pub fn airflow_steps(
     zone_states: ZoneStatesState,
     dampers: DamperState,
 ) -> AirflowSteps
-    ensures { λ r. ⌜ r ≡ Controller.airflow-steps t input «control_loops» setpoints «zone_states» dampers ⌝ }
+    ensures { λ r. ⌜ r ≡ ControllerPieces.airflow-steps t input «control_loops» setpoints «zone_states» dampers ⌝ }
 {
     let loops = control_loops.output(
         t,
@@ -160,14 +161,14 @@ pub fn airflow_steps(
 
 // The next state and the ten outputs, put together from the stages' steps.
 fn controller_step(
-    suppressed: TimeSuppressionStep,
+    after_suppression: TimeSuppressionStep,
     air: AirflowSteps,
     requests: SystemRequestsStep,
     alarms: AlarmsStep,
 ) -> ControllerStep
-    ensures { λ r. ⌜ r ≡ Controller.controller-step suppressed air requests alarms ⌝ }
+    ensures { λ r. ⌜ r ≡ ControllerPieces.controller-step «after_suppression» air requests alarms ⌝ }
 {
-    let time_suppression = suppressed.state;
+    let time_suppression = after_suppression.state;
     let loops = air.loops;
     let setpoints = air.setpoints;
     let zone = air.zone;
@@ -198,7 +199,7 @@ fn controller_step(
 }
 
 fn setpoint_input(input: ControllerInput) -> SetpointInput
-    ensures { λ r. ⌜ r ≡ Controller.setpoint-input input ⌝ }
+    ensures { λ r. ⌜ r ≡ ControllerPieces.setpoint-input input ⌝ }
 {
     SetpointInput {
         window_status: input.window_status,
@@ -217,7 +218,7 @@ fn damper_input(
     active: ActiveAirflowOutput,
     zone_state: i64,
 ) -> DamperInput
-    ensures { λ r. ⌜ r ≡ Controller.damper-input input loops active «zone_state» ⌝ }
+    ensures { λ r. ⌜ r ≡ ControllerPieces.damper-input input loops active «zone_state» ⌝ }
 {
     DamperInput {
         active_minimum_flow: active.minimum,
@@ -239,7 +240,7 @@ pub fn request_input(
     loops: ControlLoopOutput,
     damper: DamperOutput,
 ) -> SystemRequestInput
-    ensures { λ r. ⌜ r ≡ Controller.request-input input «after_suppression» loops damper ⌝ }
+    ensures { λ r. ⌜ r ≡ ControllerPieces.request-input input «after_suppression» loops damper ⌝ }
 {
     SystemRequestInput {
         after_suppression,
@@ -253,7 +254,7 @@ pub fn request_input(
 }
 
 pub fn alarm_input(input: ControllerInput, damper: DamperOutput) -> AlarmInput
-    ensures { λ r. ⌜ r ≡ Controller.alarm-input input damper ⌝ }
+    ensures { λ r. ⌜ r ≡ ControllerPieces.alarm-input input damper ⌝ }
 {
     AlarmInput {
         discharge_airflow: input.discharge_airflow,
@@ -270,7 +271,7 @@ pub fn outputs(
     requests: SystemRequestOutput,
     alarms: AlarmOutput,
 ) -> ControllerOutput
-    ensures { λ r. ⌜ r ≡ Controller.outputs damper setpoints requests alarms ⌝ }
+    ensures { λ r. ⌜ r ≡ ControllerPieces.outputs damper setpoints requests alarms ⌝ }
 {
     ControllerOutput {
         airflow_setpoint: damper.airflow_setpoint,

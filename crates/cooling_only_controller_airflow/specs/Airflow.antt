@@ -1,5 +1,8 @@
--- What the stages of cooling_only_controller_airflow.rs return: the next state beside the output, in that file's order.
--- A let that has the name of a value of the Rust holds the block's step: its `.output` is the Rust's value, its `.state` the block afterwards.
+-- What the stages of cooling_only_controller_airflow.rs return: the next state beside the output, one definition for each function,
+-- in that file's order and with its names.
+-- A let holds the Rust's value of its name, with one exception: where the Rust calls a block that keeps a state (`true-delay`,
+-- `sampler-sample`), the let holds the block's step. Its `.output` is the Rust's value, its `.state` the block afterwards.
+-- Comparators (`hysteresis`, `greater-hysteretic`, `less-hysteretic`), `buildings-line` and `clamp` give the value itself.
 -- `delay-on-init` is false in the Rust; a quiet start runs the nine true delays of system requests and alarms with true.
 use mathlib.Core.Bool.{Bool, false, not, _&&_}
 use lib.IntN.{ℤ, pos}
@@ -15,13 +18,9 @@ use Rattle.cooling_only_controller_airflow.specs.declared.DamperStep.{Da
 use Rattle.cooling_only_controller_airflow.specs.declared.SystemRequestInput.{SystemRequestInput}
 use Rattle.cooling_only_controller_airflow.specs.declared.SystemRequestsState.{SystemRequestsState}
 use Rattle.cooling_only_controller_airflow.specs.declared.SystemRequestsStep.{SystemRequestsStep}
-use Rattle.cooling_only_controller_airflow.specs.declared.TemperatureRequestStep.{TemperatureRequestStep}
-use Rattle.cooling_only_controller_airflow.specs.declared.PressureRequestStep.{PressureRequestStep}
 use Rattle.cooling_only_controller_airflow.specs.declared.AlarmInput.{AlarmInput}
 use Rattle.cooling_only_controller_airflow.specs.declared.AlarmsState.{AlarmsState}
 use Rattle.cooling_only_controller_airflow.specs.declared.AlarmsStep.{AlarmsStep}
-use Rattle.cooling_only_controller_airflow.specs.declared.LowAirflowStep.{LowAirflowStep}
-use Rattle.cooling_only_controller_airflow.specs.declared.SensorLeakStep.{SensorLeakStep}
 
 -- ---- the Rust's constants
 
@@ -48,34 +47,19 @@ SAMPLE_PERIOD = decimal 120 1
 abbrev pub fresh-damper : DamperState
 fresh-damper = record { «supply_warm» = false; integrator = zero; «previous_time» = Absent; «previous_fan» = false }
 
--- The match on `airflow_override_index` in Rust `DamperState::output`
-unfoldable pub airflow-override : ℤ → Float → Float
-airflow-override index base =
-    if index ==ᶻ 1 then zero
-    else if index ==ᶻ 2 then DESIGN_COOLING_MAXIMUM_FLOW
-    else if index ==ᶻ 3 then DESIGN_MINIMUM_FLOW
-    else base
-
--- The match on `damper_override_index` in Rust `DamperState::output`
-unfoldable pub damper-override : ℤ → Float → Float
-damper-override index pid-output =
-    if index ==ᶻ 1 then zero
-    else if index ==ᶻ 2 then decimal 1 1
-    else pid-output
-
--- The `airflow_setpoint` of Rust `DamperState::output`
-unfoldable pub chosen-airflow-setpoint : DamperInput → Bool → Float
-chosen-airflow-setpoint input supply-warm =
-    let mapped = buildings-line zero (input .«active_minimum_flow») (decimal 1 1) (input .«active_cooling_maximum_flow») (input .«cooling_loop») in
-    let active = if supply-warm then input .«active_minimum_flow» else mapped in
-    let base = if input .«zone_state» ==ᶻ 3 then active else input .«active_minimum_flow» in
-    airflow-override (input .«airflow_override_index») base
-
 -- Rust `DamperState::output`. The command is formed with the old integrator; on a fan's rising edge the new one is 0.01 - proportional.
 unfoldable pub damper : DamperState → Float → DamperInput → DamperStep
 damper s t input =
-    let supply-warm = greater-hysteretic (input .«supply_air_temperature») (input .«zone_temperature») TEMPERATURE_HYSTERESIS (s .«supply_warm») in
-    let airflow-setpoint = chosen-airflow-setpoint input supply-warm in
+    let supply-warm = greater-hysteretic (input .«supply_air_temperature») (input .«zone_temperature»)
+    TEMPERATURE_HYSTERESIS (s .«supply_warm») in
+    let mapped = buildings-line zero (input .«active_minimum_flow») (decimal 1 1) (input .«active_cooling_maximum_flow»)
+    (input .«cooling_loop») in
+    let active = if supply-warm then input .«active_minimum_flow» else mapped in
+    let base = if input .«zone_state» ==ᶻ 3 then active else input .«active_minimum_flow» in
+    let airflow-setpoint = if input .«airflow_override_index» ==ᶻ 1 then zero
+    else if input .«airflow_override_index» ==ᶻ 2 then DESIGN_COOLING_MAXIMUM_FLOW
+    else if input .«airflow_override_index» ==ᶻ 3 then DESIGN_MINIMUM_FLOW
+    else base in
     let normalized-setpoint = airflow-setpoint ⊘ DESIGN_COOLING_MAXIMUM_FLOW in
     let normalized-measurement = input .«discharge_airflow» ⊘ DESIGN_COOLING_MAXIMUM_FLOW in
     let error = normalized-setpoint ⊖ normalized-measurement in
@@ -84,11 +68,22 @@ damper s t input =
     let pid-output = clamp unlimited zero (decimal 1 1) in
     let dt = step-seconds (s .«previous_time») t in
     let anti-windup = (unlimited ⊖ pid-output) ⊘ (decimal 5 10 ⊗ decimal 9 10) in
-    let integrated = s .integrator ⊕ (decimal 5 10 ⊘ decimal 300 1) ⊗ (error ⊖ anti-windup) ⊗ dt in
-    let integrator = if input .«supply_fan_status» && not (s .«previous_fan») then decimal 1 100 ⊖ proportional else integrated in
+    let integrator = if input .«supply_fan_status» && not (s .«previous_fan») then decimal 1 100 ⊖ proportional
+    else s .integrator ⊕ (decimal 5 10 ⊘ decimal 300 1) ⊗ (error ⊖ anti-windup) ⊗ dt in
     record {
-      state = record { «supply_warm» = supply-warm; integrator = integrator; «previous_time» = At t; «previous_fan» = input .«supply_fan_status» };
-      output = record { «airflow_setpoint» = airflow-setpoint; «damper_command» = damper-override (input .«damper_override_index») pid-output };
+      state = record {
+        «supply_warm» = supply-warm;
+        integrator = integrator;
+        «previous_time» = At t;
+        «previous_fan» = input .«supply_fan_status»;
+      };
+      output = record {
+        «airflow_setpoint» = airflow-setpoint;
+        «damper_command» =
+            if input .«damper_override_index» ==ᶻ 1 then zero
+            else if input .«damper_override_index» ==ᶻ 2 then decimal 1 1
+            else pid-output;
+      };
     }
 
 -- ---- Rust `SystemRequestsState`; G36.TerminalUnits.CoolingOnly.Subsequences.SystemRequests
@@ -116,9 +111,9 @@ fresh-system-requests =
 abbrev pub request-level : Bool → Bool → Bool → ℤ
 request-level three two one = if three then pos 3 else if two then pos 2 else if one then pos 1 else pos 0
 
--- Rust `SystemRequestsState::output`, down to `temperature`
-unfoldable pub temperature-request : SystemRequestsState → Float → SystemRequestInput → Bool → TemperatureRequestStep
-temperature-request s t input delay-on-init =
+-- Rust `SystemRequestsState::output`
+unfoldable pub system-requests : SystemRequestsState → Float → SystemRequestInput → Bool → SystemRequestsStep
+system-requests s t input delay-on-init =
     let temperature-difference = input .«zone_temperature» ⊖ input .«cooling_setpoint» in
     let hot-three = hysteresis temperature-difference (decimal 275 100) (decimal 3 1) (s .«hot_three») in
     let hot-two = hysteresis temperature-difference (decimal 175 100) (decimal 2 1) (s .«hot_two») in
@@ -126,69 +121,39 @@ temperature-request s t input delay-on-init =
     let hot-two-held = true-delay (s .«hot_two_delay») t hot-two (decimal 120 1) delay-on-init in
     let sampled-cooling = sampler-sample (s .«cooling_sampler») t (input .«cooling_loop») SAMPLE_PERIOD in
     let cooling-high = hysteresis (sampled-cooling .output) (decimal 94 100) (decimal 95 100) (s .«cooling_high») in
-    record {
-      «hot_three» = hot-three;
-      «hot_two» = hot-two;
-      «hot_three_delay» = hot-three-held .state;
-      «hot_two_delay» = hot-two-held .state;
-      «cooling_sampler» = sampled-cooling .state;
-      «cooling_high» = cooling-high;
-      temperature = request-level (input .«after_suppression» && hot-three-held .output) (input .«after_suppression» && hot-two-held .output) cooling-high;
-    }
-
--- Whether the flow falls short of a share of the setpoint: `starved_half`, `starved_seventy` and `low_seventy` of the Rust
-abbrev pub starved : Float → Float → Float → Bool → Bool
-starved share setpoint discharge previous = greater-hysteretic (share ⊗ setpoint) discharge FLOW_HYSTERESIS previous
-
--- Rust `SystemRequestsState::output`, from there on
-unfoldable pub pressure-request : SystemRequestsState → Float → SystemRequestInput → Bool → PressureRequestStep
-pressure-request s t input delay-on-init =
+    let temperature = request-level (input .«after_suppression» && hot-three-held .output)
+    (input .«after_suppression» && hot-two-held .output) cooling-high in
     let sampled-setpoint = sampler-sample (s .«setpoint_sampler») t (input .«airflow_setpoint») SAMPLE_PERIOD in
     let sampled-discharge = sampler-sample (s .«discharge_sampler») t (input .«discharge_airflow») SAMPLE_PERIOD in
     let sampled-damper = sampler-sample (s .«damper_sampler») t (input .«damper_position») SAMPLE_PERIOD in
     let setpoint-on = hysteresis (sampled-setpoint .output) (decimal 5 1000) (decimal 1 100) (s .«setpoint_on») in
     let damper-high = hysteresis (sampled-damper .output) (decimal 94 100) (decimal 95 100) (s .«damper_high») in
     let damper-held = true-delay (s .«damper_delay») t damper-high (decimal 60 1) delay-on-init in
-    let starved-half = starved (decimal 5 10) (sampled-setpoint .output) (sampled-discharge .output) (s .«starved_half») in
-    let starved-seventy = starved (decimal 7 10) (sampled-setpoint .output) (sampled-discharge .output) (s .«starved_seventy») in
+    let starved-half = greater-hysteretic (decimal 5 10 ⊗ sampled-setpoint .output) (sampled-discharge .output)
+    FLOW_HYSTERESIS (s .«starved_half») in
+    let starved-seventy = greater-hysteretic (decimal 7 10 ⊗ sampled-setpoint .output) (sampled-discharge .output)
+    FLOW_HYSTERESIS (s .«starved_seventy») in
     let gate = setpoint-on && damper-held .output in
-    record {
-      «setpoint_sampler» = sampled-setpoint .state;
-      «discharge_sampler» = sampled-discharge .state;
-      «damper_sampler» = sampled-damper .state;
-      «setpoint_on» = setpoint-on;
-      «damper_high» = damper-high;
-      «damper_delay» = damper-held .state;
-      «starved_half» = starved-half;
-      «starved_seventy» = starved-seventy;
-      pressure = request-level (gate && starved-half) (gate && starved-seventy) damper-high;
-    }
-
-abbrev pub system-requests-step : TemperatureRequestStep → PressureRequestStep → SystemRequestsStep
-system-requests-step temperature pressure =
+    let pressure = request-level (gate && starved-half) (gate && starved-seventy) damper-high in
     record {
       state = record {
-        «hot_three» = temperature .«hot_three»;
-        «hot_two» = temperature .«hot_two»;
-        «hot_three_delay» = temperature .«hot_three_delay»;
-        «hot_two_delay» = temperature .«hot_two_delay»;
-        «cooling_sampler» = temperature .«cooling_sampler»;
-        «setpoint_sampler» = pressure .«setpoint_sampler»;
-        «discharge_sampler» = pressure .«discharge_sampler»;
-        «damper_sampler» = pressure .«damper_sampler»;
-        «cooling_high» = temperature .«cooling_high»;
-        «setpoint_on» = pressure .«setpoint_on»;
-        «damper_high» = pressure .«damper_high»;
-        «damper_delay» = pressure .«damper_delay»;
-        «starved_half» = pressure .«starved_half»;
-        «starved_seventy» = pressure .«starved_seventy»;
+        «hot_three» = hot-three;
+        «hot_two» = hot-two;
+        «hot_three_delay» = hot-three-held .state;
+        «hot_two_delay» = hot-two-held .state;
+        «cooling_sampler» = sampled-cooling .state;
+        «setpoint_sampler» = sampled-setpoint .state;
+        «discharge_sampler» = sampled-discharge .state;
+        «damper_sampler» = sampled-damper .state;
+        «cooling_high» = cooling-high;
+        «setpoint_on» = setpoint-on;
+        «damper_high» = damper-high;
+        «damper_delay» = damper-held .state;
+        «starved_half» = starved-half;
+        «starved_seventy» = starved-seventy;
       };
-      output = record { temperature = temperature .temperature; pressure = pressure .pressure };
+      output = record { temperature = temperature; pressure = pressure };
     }
-
--- Rust `SystemRequestsState::output`
-unfoldable pub system-requests : SystemRequestsState → Float → SystemRequestInput → Bool → SystemRequestsStep
-system-requests s t input delay-on-init = system-requests-step (temperature-request s t input delay-on-init) (pressure-request s t input delay-on-init)
 
 -- ---- Rust `AlarmsState`; G36.TerminalUnits.CoolingOnly.Subsequences.Alarms
 
@@ -208,75 +173,47 @@ fresh-alarms =
       «leak_delay» = fresh-true-delay;
     }
 
--- `low_airflow`, with the Rust's `level_two` and `level_three`
-abbrev pub low-airflow-level : Bool → Bool → Bool → ℤ → ℤ
-low-airflow-level low-half-held low-seventy-held setpoint-on operation-mode =
-    let occupied = operation-mode ==ᶻ 1 in
-    let level-two = low-half-held && setpoint-on && occupied in
-    let level-three = low-seventy-held && setpoint-on && occupied in
-    if level-two then pos 2 else if level-three then pos 3 else pos 0
-
--- Rust's `if on { level } else { 0 }`
-abbrev pub alarm-level : Bool → ℤ → ℤ
-alarm-level on level = if on then level else pos 0
-
--- Rust `AlarmsState::output`, down to `low_airflow`. Both low-flow memories are stored before the fan's arming enters.
-unfoldable pub low-airflow-alarm : AlarmsState → Float → AlarmInput → Bool → LowAirflowStep
-low-airflow-alarm s t input delay-on-init =
+-- Rust `AlarmsState::output`. Both low-flow memories are stored before the fan's arming enters.
+unfoldable pub alarms : AlarmsState → Float → AlarmInput → Bool → AlarmsStep
+alarms s t input delay-on-init =
+    let occupied = input .«operation_mode» ==ᶻ 1 in
     let fan-armed = true-delay (s .«fan_armed») t (input .«supply_fan_status») (decimal 1800 1) delay-on-init in
     let setpoint-nonzero = hysteresis (input .«active_airflow_setpoint») (decimal 5 1000) (decimal 1 100) (s .«setpoint_nonzero») in
     let setpoint-on = true-delay (s .«setpoint_on») t setpoint-nonzero (decimal 300 1) delay-on-init in
-    let low-half = less-hysteretic (input .«discharge_airflow») (decimal 5 10 ⊗ input .«active_airflow_setpoint») FLOW_HYSTERESIS (s .«low_half») in
-    let low-seventy = starved (decimal 7 10) (input .«active_airflow_setpoint») (input .«discharge_airflow») (s .«low_seventy») in
+    let low-half = less-hysteretic (input .«discharge_airflow») (decimal 5 10 ⊗ input .«active_airflow_setpoint»)
+    FLOW_HYSTERESIS (s .«low_half») in
+    let low-seventy = greater-hysteretic (decimal 7 10 ⊗ input .«active_airflow_setpoint») (input .«discharge_airflow»)
+    FLOW_HYSTERESIS (s .«low_seventy») in
     let low-half-held = true-delay (s .«low_half_delay») t (low-half && fan-armed .output) (decimal 300 1) delay-on-init in
     let low-seventy-held = true-delay (s .«low_seventy_delay») t (low-seventy && fan-armed .output) (decimal 300 1) delay-on-init in
-    record {
-      «fan_armed» = fan-armed .state;
-      «setpoint_nonzero» = setpoint-nonzero;
-      «setpoint_on» = setpoint-on .state;
-      «low_half» = low-half;
-      «low_seventy» = low-seventy;
-      «low_half_delay» = low-half-held .state;
-      «low_seventy_delay» = low-seventy-held .state;
-      «low_airflow» = low-airflow-level (low-half-held .output) (low-seventy-held .output) (setpoint-on .output) (input .«operation_mode»);
-    }
-
--- Rust `AlarmsState::output`, from there on
-unfoldable pub sensor-leak-alarms : AlarmsState → Float → AlarmInput → Bool → SensorLeakStep
-sensor-leak-alarms s t input delay-on-init =
-    let occupied = input .«operation_mode» ==ᶻ 1 in
-    let flow-high = greater-hysteretic (input .«discharge_airflow») (decimal 1 10 ⊗ DESIGN_COOLING_MAXIMUM_FLOW) FLOW_HYSTERESIS (s .«flow_high») in
+    let level-two = low-half-held .output && setpoint-on .output && occupied in
+    let level-three = low-seventy-held .output && setpoint-on .output && occupied in
+    let low-airflow = if level-two then pos 2 else if level-three then pos 3 else pos 0 in
+    let flow-high = greater-hysteretic (input .«discharge_airflow») (decimal 1 10 ⊗ DESIGN_COOLING_MAXIMUM_FLOW)
+    FLOW_HYSTERESIS (s .«flow_high») in
     let sensor-held = true-delay (s .«sensor_delay») t (flow-high && not (input .«supply_fan_status»)) (decimal 600 1) delay-on-init in
-    let damper-closed = less-hysteretic (input .«damper_position») DAMPER_POSITION_HYSTERESIS (decimal 5 10 ⊗ DAMPER_POSITION_HYSTERESIS) (s .«damper_closed») in
-    let leak-held = true-delay (s .«leak_delay») t (input .«supply_fan_status» && damper-closed && flow-high) (decimal 600 1) delay-on-init in
-    record {
-      «flow_high» = flow-high;
-      «sensor_delay» = sensor-held .state;
-      «airflow_sensor» = alarm-level (sensor-held .output && occupied) (pos 3);
-      «damper_closed» = damper-closed;
-      «leak_delay» = leak-held .state;
-      «leaking_damper» = alarm-level (leak-held .output) (pos 4);
-    }
-
-abbrev pub alarms-step : LowAirflowStep → SensorLeakStep → AlarmsStep
-alarms-step low sensor-leak =
+    let airflow-sensor = if sensor-held .output && occupied then pos 3 else pos 0 in
+    let damper-closed = less-hysteretic (input .«damper_position») DAMPER_POSITION_HYSTERESIS
+    (decimal 5 10 ⊗ DAMPER_POSITION_HYSTERESIS) (s .«damper_closed») in
+    let leak-held = true-delay (s .«leak_delay») t (input .«supply_fan_status» && damper-closed && flow-high)
+    (decimal 600 1) delay-on-init in
     record {
       state = record {
-        «fan_armed» = low .«fan_armed»;
-        «setpoint_nonzero» = low .«setpoint_nonzero»;
-        «setpoint_on» = low .«setpoint_on»;
-        «low_half» = low .«low_half»;
-        «low_seventy» = low .«low_seventy»;
-        «low_half_delay» = low .«low_half_delay»;
-        «low_seventy_delay» = low .«low_seventy_delay»;
-        «flow_high» = sensor-leak .«flow_high»;
-        «sensor_delay» = sensor-leak .«sensor_delay»;
-        «damper_closed» = sensor-leak .«damper_closed»;
-        «leak_delay» = sensor-leak .«leak_delay»;
+        «fan_armed» = fan-armed .state;
+        «setpoint_nonzero» = setpoint-nonzero;
+        «setpoint_on» = setpoint-on .state;
+        «low_half» = low-half;
+        «low_seventy» = low-seventy;
+        «low_half_delay» = low-half-held .state;
+        «low_seventy_delay» = low-seventy-held .state;
+        «flow_high» = flow-high;
+        «sensor_delay» = sensor-held .state;
+        «damper_closed» = damper-closed;
+        «leak_delay» = leak-held .state;
       };
-      output = record { «low_airflow» = low .«low_airflow»; «airflow_sensor» = sensor-leak .«airflow_sensor»; «leaking_damper» = sensor-leak .«leaking_damper» };
+      output = record {
+        «low_airflow» = low-airflow;
+        «airflow_sensor» = airflow-sensor;
+        «leaking_damper» = if leak-held .output then pos 4 else pos 0;
+      };
     }
-
--- Rust `AlarmsState::output`
-unfoldable pub alarms : AlarmsState → Float → AlarmInput → Bool → AlarmsStep
-alarms s t input delay-on-init = alarms-step (low-airflow-alarm s t input delay-on-init) (sensor-leak-alarms s t input delay-on-init)

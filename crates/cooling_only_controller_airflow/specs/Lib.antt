@@ -1,1 +1,2 @@
 pub mod Airflow
+pub mod AirflowPieces

@@ -1,6 +1,7 @@
 // Airflow, system requests and alarms, as in cooling_only_controller_airflow.rs.
 ghost use mathlib.Core.Path.{_≡_};
 ghost use Rattle.cooling_only_controller_airflow.specs.Airflow as Airflow;
+ghost use Rattle.cooling_only_controller_airflow.specs.AirflowPieces as AirflowPieces;
 use cdl_recurrences::OptionalTime;
 use cdl_recurrences::greater_hysteretic;
 use cdl_recurrences::hysteresis;
@@ -105,7 +106,7 @@ impl DamperState {
 
 // The setpoint that the cooling loop asks for in the cooling state with cool supply air, else the minimum; an override comes first.
 fn airflow_setpoint(input: DamperInput, supply_warm: bool) -> f64
-    ensures { λ r. ⌜ r ≡ Airflow.chosen-airflow-setpoint input «supply_warm» ⌝ }
+    ensures { λ r. ⌜ r ≡ AirflowPieces.airflow-setpoint input «supply_warm» ⌝ }
 {
     let mapped = cdl_recurrences::buildings_line(
         0.0,
@@ -121,7 +122,7 @@ fn airflow_setpoint(input: DamperInput, supply_warm: bool) -> f64
 
 // Override 1 closes, 2 and 3 ask for the design maximum and minimum; any other index leaves the base.
 fn airflow_override(index: i64, base: f64) -> f64
-    ensures { λ r. ⌜ r ≡ Airflow.airflow-override index base ⌝ }
+    ensures { λ r. ⌜ r ≡ AirflowPieces.airflow-override index base ⌝ }
 {
     if index == 1 {
         0.0
@@ -136,7 +137,7 @@ fn airflow_override(index: i64, base: f64) -> f64
 
 // Override 1 closes, 2 opens; any other index leaves the PI's output.
 fn damper_override(index: i64, pid_output: f64) -> f64
-    ensures { λ r. ⌜ r ≡ Airflow.damper-override index «pid_output» ⌝ }
+    ensures { λ r. ⌜ r ≡ AirflowPieces.damper-override index «pid_output» ⌝ }
 {
     if index == 1 {
         0.0
@@ -251,24 +252,24 @@ impl SystemRequestsState {
         input: SystemRequestInput,
         delay_on_init: bool,
     ) -> TemperatureRequestStep
-        ensures { λ r. ⌜ r ≡ Airflow.temperature-request self t input «delay_on_init» ⌝ }
+        ensures { λ r. ⌜ r ≡ AirflowPieces.temperature-request self t input «delay_on_init» ⌝ }
     {
         let temperature_difference = input.zone_temperature - input.cooling_setpoint;
         let hot_three = hysteresis(temperature_difference, 2.75, 3.0, self.hot_three);
         let hot_two = hysteresis(temperature_difference, 1.75, 2.0, self.hot_two);
-        let three_held = self.hot_three_delay
+        let hot_three_held = self.hot_three_delay
             .output(t, hot_three, 120.0, delay_on_init);
-        let two_held = self.hot_two_delay.output(t, hot_two, 120.0, delay_on_init);
+        let hot_two_held = self.hot_two_delay.output(t, hot_two, 120.0, delay_on_init);
         let sampled_cooling = self.cooling_sampler
             .sample(t, input.cooling_loop, SAMPLE_PERIOD);
         let cooling_high = hysteresis(sampled_cooling.output, 0.94, 0.95, self.cooling_high);
         let temperature = request_level(
-            input.after_suppression & three_held.output,
-            input.after_suppression & two_held.output,
+            input.after_suppression & hot_three_held.output,
+            input.after_suppression & hot_two_held.output,
             cooling_high,
         );
-        let hot_three_delay = three_held.state;
-        let hot_two_delay = two_held.state;
+        let hot_three_delay = hot_three_held.state;
+        let hot_two_delay = hot_two_held.state;
         let cooling_sampler = sampled_cooling.state;
         TemperatureRequestStep {
             hot_three,
@@ -288,26 +289,36 @@ impl SystemRequestsState {
         input: SystemRequestInput,
         delay_on_init: bool,
     ) -> PressureRequestStep
-        ensures { λ r. ⌜ r ≡ Airflow.pressure-request self t input «delay_on_init» ⌝ }
+        ensures { λ r. ⌜ r ≡ AirflowPieces.pressure-request self t input «delay_on_init» ⌝ }
     {
-        let setpoint = self.setpoint_sampler
+        let sampled_setpoint = self.setpoint_sampler
             .sample(t, input.airflow_setpoint, SAMPLE_PERIOD);
-        let discharge = self.discharge_sampler
+        let sampled_discharge = self.discharge_sampler
             .sample(t, input.discharge_airflow, SAMPLE_PERIOD);
-        let damper = self.damper_sampler
+        let sampled_damper = self.damper_sampler
             .sample(t, input.damper_position, SAMPLE_PERIOD);
-        let setpoint_on = hysteresis(setpoint.output, 0.005, 0.01, self.setpoint_on);
-        let damper_high = hysteresis(damper.output, 0.94, 0.95, self.damper_high);
-        let held = self.damper_delay
+        let setpoint_on = hysteresis(sampled_setpoint.output, 0.005, 0.01, self.setpoint_on);
+        let damper_high = hysteresis(sampled_damper.output, 0.94, 0.95, self.damper_high);
+        let damper_held = self.damper_delay
             .output(t, damper_high, 60.0, delay_on_init);
-        let starved_half = starved(0.5, setpoint.output, discharge.output, self.starved_half);
-        let starved_seventy = starved(0.7, setpoint.output, discharge.output, self.starved_seventy);
-        let gate = setpoint_on & held.output;
+        let starved_half = starved(
+            0.5,
+            sampled_setpoint.output,
+            sampled_discharge.output,
+            self.starved_half,
+        );
+        let starved_seventy = starved(
+            0.7,
+            sampled_setpoint.output,
+            sampled_discharge.output,
+            self.starved_seventy,
+        );
+        let gate = setpoint_on & damper_held.output;
         let pressure = request_level(gate & starved_half, gate & starved_seventy, damper_high);
-        let setpoint_sampler = setpoint.state;
-        let discharge_sampler = discharge.state;
-        let damper_sampler = damper.state;
-        let damper_delay = held.state;
+        let setpoint_sampler = sampled_setpoint.state;
+        let discharge_sampler = sampled_discharge.state;
+        let damper_sampler = sampled_damper.state;
+        let damper_delay = damper_held.state;
         PressureRequestStep {
             setpoint_sampler,
             discharge_sampler,
@@ -324,7 +335,7 @@ impl SystemRequestsState {
 
 // Whether the flow falls short of a share of the setpoint.
 fn starved(share: f64, setpoint: f64, discharge: f64, previous: bool) -> bool
-    ensures { λ r. ⌜ r ≡ Airflow.starved share setpoint discharge previous ⌝ }
+    ensures { λ r. ⌜ r ≡ AirflowPieces.starved share setpoint discharge previous ⌝ }
 {
     greater_hysteretic(share * setpoint, discharge, FLOW_HYSTERESIS, previous)
 }
@@ -334,7 +345,7 @@ fn system_requests_step(
     temperature: TemperatureRequestStep,
     pressure: PressureRequestStep,
 ) -> SystemRequestsStep
-    ensures { λ r. ⌜ r ≡ Airflow.system-requests-step temperature pressure ⌝ }
+    ensures { λ r. ⌜ r ≡ AirflowPieces.system-requests-step temperature pressure ⌝ }
 {
     let hot_three_delay = temperature.hot_three_delay;
     let hot_two_delay = temperature.hot_two_delay;
@@ -466,37 +477,37 @@ impl AlarmsState {
 
     // Both low-flow memories move on every tick, whether the fan is armed or not.
     fn low_airflow(self, t: f64, input: AlarmInput, delay_on_init: bool) -> LowAirflowStep
-        ensures { λ r. ⌜ r ≡ Airflow.low-airflow-alarm self t input «delay_on_init» ⌝ }
+        ensures { λ r. ⌜ r ≡ AirflowPieces.low-airflow self t input «delay_on_init» ⌝ }
     {
         let flow = input.discharge_airflow;
         let setpoint = input.active_airflow_setpoint;
-        let armed = self.fan_armed
+        let fan_armed = self.fan_armed
             .output(t, input.supply_fan_status, 1800.0, delay_on_init);
         let setpoint_nonzero = hysteresis(setpoint, 0.005, 0.01, self.setpoint_nonzero);
-        let on = self.setpoint_on
+        let setpoint_on = self.setpoint_on
             .output(t, setpoint_nonzero, 300.0, delay_on_init);
         let low_half = less_hysteretic(flow, 0.5 * setpoint, FLOW_HYSTERESIS, self.low_half);
         let low_seventy = starved(0.7, setpoint, flow, self.low_seventy);
-        let half_low = low_half & armed.output;
-        let half_held = self.low_half_delay
+        let half_low = low_half & fan_armed.output;
+        let low_half_held = self.low_half_delay
             .output(t, half_low, 300.0, delay_on_init);
-        let seventy_low = low_seventy & armed.output;
-        let seventy_held = self.low_seventy_delay
+        let seventy_low = low_seventy & fan_armed.output;
+        let low_seventy_held = self.low_seventy_delay
             .output(t, seventy_low, 300.0, delay_on_init);
         let low_airflow = low_airflow_level(
-            half_held.output,
-            seventy_held.output,
-            on.output,
+            low_half_held.output,
+            low_seventy_held.output,
+            setpoint_on.output,
             input.operation_mode,
         );
-        let fan_armed = armed.state;
-        let setpoint_on = on.state;
-        let low_half_delay = half_held.state;
-        let low_seventy_delay = seventy_held.state;
+        let fan_armed_state = fan_armed.state;
+        let setpoint_on_state = setpoint_on.state;
+        let low_half_delay = low_half_held.state;
+        let low_seventy_delay = low_seventy_held.state;
         LowAirflowStep {
-            fan_armed,
+            fan_armed: fan_armed_state,
             setpoint_nonzero,
-            setpoint_on,
+            setpoint_on: setpoint_on_state,
             low_half,
             low_seventy,
             low_half_delay,
@@ -506,7 +517,7 @@ impl AlarmsState {
     }
 
     fn sensor_leak(self, t: f64, input: AlarmInput, delay_on_init: bool) -> SensorLeakStep
-        ensures { λ r. ⌜ r ≡ Airflow.sensor-leak-alarms self t input «delay_on_init» ⌝ }
+        ensures { λ r. ⌜ r ≡ AirflowPieces.sensor-leak self t input «delay_on_init» ⌝ }
     {
         let occupied = input.operation_mode == 1;
         let fan = input.supply_fan_status;
@@ -544,7 +555,7 @@ impl AlarmsState {
 
 // The alarms' memories and levels, put together.
 fn alarms_step(low: LowAirflowStep, sensor_leak: SensorLeakStep) -> AlarmsStep
-    ensures { λ r. ⌜ r ≡ Airflow.alarms-step low «sensor_leak» ⌝ }
+    ensures { λ r. ⌜ r ≡ AirflowPieces.alarms-step low «sensor_leak» ⌝ }
 {
     let fan_armed = low.fan_armed;
     let setpoint_on = low.setpoint_on;
@@ -576,17 +587,19 @@ fn alarms_step(low: LowAirflowStep, sensor_leak: SensorLeakStep) -> AlarmsStep
 
 // Level 2 comes before level 3.
 fn low_airflow_level(
-    half_held: bool,
-    seventy_held: bool,
+    low_half_held: bool,
+    low_seventy_held: bool,
     setpoint_on: bool,
     operation_mode: i64,
 ) -> i64
-    ensures { λ r. ⌜ r ≡ Airflow.low-airflow-level «half_held» «seventy_held» «setpoint_on» «operation_mode» ⌝ }
+    ensures { λ r. ⌜ r ≡ AirflowPieces.low-airflow-level «low_half_held» «low_seventy_held» «setpoint_on» «operation_mode» ⌝ }
 {
     let occupied = operation_mode == 1;
-    if half_held & setpoint_on & occupied {
+    let level_two = low_half_held & setpoint_on & occupied;
+    let level_three = low_seventy_held & setpoint_on & occupied;
+    if level_two {
         2
-    } else if seventy_held & setpoint_on & occupied {
+    } else if level_three {
         3
     } else {
         0
@@ -594,7 +607,7 @@ fn low_airflow_level(
 }
 
 fn alarm_level(on: bool, level: i64) -> i64
-    ensures { λ r. ⌜ r ≡ Airflow.alarm-level on level ⌝ }
+    ensures { λ r. ⌜ r ≡ AirflowPieces.alarm-level on level ⌝ }
 {
     if on { level } else { 0 }
 }

@@ -1,5 +1,9 @@
--- What the stages of cooling_only_controller_conditioning.rs return: the next state beside the output, in that file's order.
--- A let that has the name of a value of the Rust holds the block's step: its `.output` is the Rust's value, its `.state` the block afterwards.
+-- What the stages of cooling_only_controller_conditioning.rs return: the next state beside the output, one definition for each function,
+-- in that file's order and with its names.
+-- A let holds the Rust's value of its name, with one exception: where the Rust calls a block that keeps a state (`sampler-sample`,
+-- `unit-delay-sample`, `true-delay`, `timer-elapsed`, `latch`, `loop-pi`), the let holds the block's step. Its `.output` is the Rust's
+-- value, its `.state` the block afterwards.
+-- Comparators (`hysteresis`, `greater-hysteretic`, `less-hysteretic`), `buildings-line` and `clamp` give the value itself.
 use mathlib.Core.Bool.{Bool, true, false, not, _&&_, _||_}
 use lib.IntN.{ℤ, pos}
 use lib.Signed.{leZ}
@@ -9,19 +13,16 @@ use Rattle.f64_helpers.specs.Helpers.{abs, smaller}
 use Rattle.f64_helpers.specs.Integers.{_==ᶻ_}
 use Rattle.cdl_recurrences.specs.CdlRecurrences.{buildings-line, clamp, greater-hysteretic, hysteresis, less-hysteretic}
 use Rattle.cdl_recurrences.specs.declared.OptionalTime.the-variants.{Absent, At}
-use Rattle.cooling_only_controller_timing.specs.Timing.{sampler-sample, unit-delay-sample, true-delay, timer-elapsed, step-seconds, fresh-sampler, fresh-unit-delay, fresh-true-delay, fresh-timer}
-use Rattle.cooling_only_controller_timing.specs.declared.TimerStep.{TimerStep}
-use Rattle.cooling_only_controller_timing.specs.declared.TrueDelayState.{TrueDelayState}
+use Rattle.cooling_only_controller_timing.specs.Timing.{sampler-sample, unit-delay-sample, true-delay, timer-elapsed, step-seconds}
+use Rattle.cooling_only_controller_timing.specs.Timing.{fresh-sampler, fresh-unit-delay, fresh-true-delay, fresh-timer}
 use Rattle.cooling_only_controller_conditioning.specs.declared.LatchState.{LatchState}
 use Rattle.cooling_only_controller_conditioning.specs.declared.LatchStep.{LatchStep}
 use Rattle.cooling_only_controller_conditioning.specs.declared.TimeSuppressionState.{TimeSuppressionState}
 use Rattle.cooling_only_controller_conditioning.specs.declared.TimeSuppressionStep.{TimeSuppressionStep}
-use Rattle.cooling_only_controller_conditioning.specs.declared.ChangeStep.{ChangeStep}
 use Rattle.cooling_only_controller_conditioning.specs.declared.LoopPiState.{LoopPiState}
 use Rattle.cooling_only_controller_conditioning.specs.declared.LoopPiStep.{LoopPiStep}
 use Rattle.cooling_only_controller_conditioning.specs.declared.ControlLoopsState.{ControlLoopsState}
 use Rattle.cooling_only_controller_conditioning.specs.declared.ControlLoopsStep.{ControlLoopsStep}
-use Rattle.cooling_only_controller_conditioning.specs.declared.LoopStep.{LoopStep}
 use Rattle.cooling_only_controller_conditioning.specs.declared.SetpointInput.{SetpointInput}
 use Rattle.cooling_only_controller_conditioning.specs.declared.SetpointsState.{SetpointsState}
 use Rattle.cooling_only_controller_conditioning.specs.declared.SetpointsStep.{SetpointsStep}
@@ -102,61 +103,39 @@ fresh-time-suppression =
       «captured_zone» = zero;
     }
 
--- Rust `TimeSuppressionState::output`, down to `change_detected`
-unfoldable pub setpoint-change : TimeSuppressionState → Float → Float → ChangeStep
-setpoint-change s t setpoint-temperature =
+-- Rust `TimeSuppressionState::output`
+unfoldable pub time-suppression : TimeSuppressionState → Float → Float → Float → TimeSuppressionStep
+time-suppression s t setpoint-temperature zone-temperature =
     let sampled-setpoint = sampler-sample (s .«setpoint_sampler») t setpoint-temperature SAMPLE_PERIOD in
     let prior-sample = unit-delay-sample (s .«previous_sample») t (sampled-setpoint .output) SAMPLE_PERIOD in
     let startup-complete = true-delay (s .«startup_delay») t true SAMPLE_PERIOD true in
     let change-magnitude = if startup-complete .output then abs (sampled-setpoint .output ⊖ prior-sample .output) else zero in
-    let change-detected = greater-hysteretic change-magnitude TEMPERATURE_HYSTERESIS (decimal 5 10 ⊗ TEMPERATURE_HYSTERESIS) (s .«change_detected») in
-    record {
-      «setpoint_sampler» = sampled-setpoint .state;
-      «previous_sample» = prior-sample .state;
-      «startup_delay» = startup-complete .state;
-      «change_detected» = change-detected;
-    }
-
--- The `suppression_window` of Rust `TimeSuppressionState::output`
-unfoldable pub suppression-window : Float → Float → Float
-suppression-window captured-setpoint captured-zone = smaller (decimal 540 1 ⊗ abs (captured-setpoint ⊖ captured-zone)) (decimal 1800 1)
-
--- its `passed`: the elapsed time exceeds the window. The comparison is strict.
-abbrev pub window-passed : Float → Float → Float → Bool
-window-passed elapsed captured-setpoint captured-zone = elapsed >ᶠ suppression-window captured-setpoint captured-zone
-
--- what it stores, in the order of the record's fields
-abbrev pub time-suppression-state : ChangeStep → LatchStep → LatchStep → TimerStep → Bool → Float → Float → TimeSuppressionState
-time-suppression-state change suppression passed-latched elapsed passed captured-setpoint captured-zone =
-    record {
-      «setpoint_sampler» = change .«setpoint_sampler»;
-      «previous_sample» = change .«previous_sample»;
-      «startup_delay» = change .«startup_delay»;
-      «change_detected» = change .«change_detected»;
-      «suppression_latch» = suppression .state;
-      «passed_latch» = passed-latched .state;
-      timer = elapsed .state;
-      «previous_active» = suppression .output;
-      «previous_passed» = passed;
-      «captured_setpoint» = captured-setpoint;
-      «captured_zone» = captured-zone;
-    }
-
--- Rust `TimeSuppressionState::output`
-unfoldable pub time-suppression : TimeSuppressionState → Float → Float → Float → TimeSuppressionStep
-time-suppression s t setpoint-temperature zone-temperature =
-    let change = setpoint-change s t setpoint-temperature in
-    let suppression = latch (s .«suppression_latch») (change .«change_detected») (s .«previous_passed») in
-    let active = suppression .output in
-    let rising-active = active && not (s .«previous_active») in
+    let change-detected = greater-hysteretic change-magnitude TEMPERATURE_HYSTERESIS
+    (decimal 5 10 ⊗ TEMPERATURE_HYSTERESIS) (s .«change_detected») in
+    let active = latch (s .«suppression_latch») change-detected (s .«previous_passed») in
+    let rising-active = active .output && not (s .«previous_active») in
     let captured-setpoint = if rising-active then setpoint-temperature else s .«captured_setpoint» in
     let captured-zone = if rising-active then zone-temperature else s .«captured_zone» in
-    let elapsed = timer-elapsed (s .timer) t active in
-    let passed = window-passed (elapsed .output) captured-setpoint captured-zone in
+    let suppression-window = smaller (decimal 540 1 ⊗ abs (captured-setpoint ⊖ captured-zone)) (decimal 1800 1) in
+    let elapsed = timer-elapsed (s .timer) t (active .output) in
+    let passed = elapsed .output >ᶠ suppression-window in
     let passed-latched = latch (s .«passed_latch») passed rising-active in
+    let output = if active .output then passed-latched .output else true in
     record {
-      state = time-suppression-state change suppression passed-latched elapsed passed captured-setpoint captured-zone;
-      output = if active then passed-latched .output else true;
+      state = record {
+        «setpoint_sampler» = sampled-setpoint .state;
+        «previous_sample» = prior-sample .state;
+        «startup_delay» = startup-complete .state;
+        «change_detected» = change-detected;
+        «suppression_latch» = active .state;
+        «passed_latch» = passed-latched .state;
+        timer = elapsed .state;
+        «previous_active» = active .output;
+        «previous_passed» = passed;
+        «captured_setpoint» = captured-setpoint;
+        «captured_zone» = captured-zone;
+      };
+      output = output;
     }
 
 -- ---- Rust `LoopPiState`; CDL.Reals.PIDWithReset as a PI
@@ -172,8 +151,8 @@ loop-pi s t error trigger =
     let limited = clamp unlimited zero (decimal 1 1) in
     let dt = step-seconds (s .«previous_time») t in
     let anti-windup = (unlimited ⊖ limited) ⊘ (CONTROL_GAIN ⊗ ANTI_WINDUP_NI) in
-    let integrated = s .integrator ⊕ (CONTROL_GAIN ⊘ CONTROL_INTEGRAL_TIME) ⊗ (error ⊖ anti-windup) ⊗ dt in
-    let integrator = if trigger && not (s .«previous_trigger») then neg proportional else integrated in
+    let integrator = if trigger && not (s .«previous_trigger») then neg proportional
+    else s .integrator ⊕ (CONTROL_GAIN ⊘ CONTROL_INTEGRAL_TIME) ⊗ (error ⊖ anti-windup) ⊗ dt in
     record { state = record { integrator = integrator; «previous_time» = At t; «previous_trigger» = trigger }; output = limited }
 
 -- ---- Rust `ControlLoopsState`; G36.ThermalZones.ControlLoops
@@ -191,62 +170,58 @@ fresh-control-loops =
       «heating_delay» = fresh-true-delay;
     }
 
--- One of the two loops of Rust `ControlLoopsState::output`. The cooling loop has the cooling setpoint below and the zone above, the heating loop the zone below and the heating setpoint above.
-unfoldable pub control-loop : Float → Float → Float → Bool → LoopPiState → Bool → TrueDelayState → LoopStep
-control-loop t below above was-enabled pi was-near-zero delay =
-    let enable = less-hysteretic below above TEMPERATURE_HYSTERESIS was-enabled in
-    let raw = loop-pi pi t (above ⊖ below) enable in
-    let near-zero = less-hysteretic (raw .output) LOOP_THRESHOLD LOOP_HYSTERESIS was-near-zero in
-    let delayed = true-delay delay t near-zero CONTROL_DELAY false in
-    let gate = if delayed .output && not enable then zero else decimal 1 1 in
-    record { enable = enable; pi = raw .state; «near_zero» = near-zero; delay = delayed .state; output = raw .output ⊗ gate }
-
-abbrev pub control-loops-step : LoopStep → LoopStep → ControlLoopsStep
-control-loops-step cooling heating =
-    record {
-      state = record {
-        «cooling_enable» = cooling .enable;
-        «heating_enable» = heating .enable;
-        «cooling_pi» = cooling .pi;
-        «heating_pi» = heating .pi;
-        «cooling_near_zero» = cooling .«near_zero»;
-        «heating_near_zero» = heating .«near_zero»;
-        «cooling_delay» = cooling .delay;
-        «heating_delay» = heating .delay;
-      };
-      output = record { cooling = cooling .output; heating = heating .output };
-    }
-
 -- Rust `ControlLoopsState::output`
 unfoldable pub control-loops : ControlLoopsState → Float → Float → Float → Float → ControlLoopsStep
 control-loops s t cooling-setpoint zone-temperature heating-setpoint =
-    let cooling = control-loop t cooling-setpoint zone-temperature (s .«cooling_enable») (s .«cooling_pi») (s .«cooling_near_zero») (s .«cooling_delay») in
-    let heating = control-loop t zone-temperature heating-setpoint (s .«heating_enable») (s .«heating_pi») (s .«heating_near_zero») (s .«heating_delay») in
-    control-loops-step cooling heating
+    let cooling-enable = less-hysteretic cooling-setpoint zone-temperature TEMPERATURE_HYSTERESIS (s .«cooling_enable») in
+    let heating-enable = less-hysteretic zone-temperature heating-setpoint TEMPERATURE_HYSTERESIS (s .«heating_enable») in
+    let cooling-raw = loop-pi (s .«cooling_pi») t (zone-temperature ⊖ cooling-setpoint) cooling-enable in
+    let heating-raw = loop-pi (s .«heating_pi») t (heating-setpoint ⊖ zone-temperature) heating-enable in
+    let cooling-near-zero = less-hysteretic (cooling-raw .output) LOOP_THRESHOLD LOOP_HYSTERESIS (s .«cooling_near_zero») in
+    let heating-near-zero = less-hysteretic (heating-raw .output) LOOP_THRESHOLD LOOP_HYSTERESIS (s .«heating_near_zero») in
+    let cooling-delayed = true-delay (s .«cooling_delay») t cooling-near-zero CONTROL_DELAY false in
+    let heating-delayed = true-delay (s .«heating_delay») t heating-near-zero CONTROL_DELAY false in
+    record {
+      state = record {
+        «cooling_enable» = cooling-enable;
+        «heating_enable» = heating-enable;
+        «cooling_pi» = cooling-raw .state;
+        «heating_pi» = heating-raw .state;
+        «cooling_near_zero» = cooling-near-zero;
+        «heating_near_zero» = heating-near-zero;
+        «cooling_delay» = cooling-delayed .state;
+        «heating_delay» = heating-delayed .state;
+      };
+      output = record {
+        cooling = cooling-raw .output ⊗ (if cooling-delayed .output && not cooling-enable then zero else decimal 1 1);
+        heating = heating-raw .output ⊗ (if heating-delayed .output && not heating-enable then zero else decimal 1 1);
+      };
+    }
 
 -- ---- Rust `SetpointsState`; G36.VentilationZones.ASHRAE62_1.Setpoints
 
 abbrev pub fresh-setpoints : SetpointsState
 fresh-setpoints = record { «cooling_supply» = false }
 
--- Rust's `if off { 0.0 } else { flow }`
-abbrev pub unless : Bool → Float → Float
-unless off flow = if off then zero else flow
-
 -- Rust `SetpointsState::output`
 unfoldable pub setpoints : SetpointsState → SetpointInput → SetpointsStep
 setpoints s input =
-    let cooling-supply = greater-hysteretic (input .«zone_temperature») (input .«discharge_air_temperature») TEMPERATURE_HYSTERESIS (s .«cooling_supply») in
+    let cooling-supply = greater-hysteretic (input .«zone_temperature») (input .«discharge_air_temperature»)
+    TEMPERATURE_HYSTERESIS (s .«cooling_supply») in
     let occupied-mode = input .«operating_mode» ==ᶻ 1 in
     let override-to-zero = not (input .«window_status») || not occupied-mode in
-    let co2-loop = buildings-line (input .«co2_setpoint» ⊖ decimal 200 1) zero (input .«co2_setpoint») (decimal 1 1) (input .«co2_concentration») in
+    let co2-loop = buildings-line (input .«co2_setpoint» ⊖ decimal 200 1) zero (input .«co2_setpoint») (decimal 1 1)
+    (input .«co2_concentration») in
     let corrected-co2 = if occupied-mode then co2-loop else zero in
     let occupied-minimum = buildings-line zero DESIGN_MINIMUM_FLOW (decimal 1 1) DESIGN_COOLING_MAXIMUM_FLOW corrected-co2 in
     let population = buildings-line zero zero (decimal 1 1) POPULATION_BREATHING_FLOW corrected-co2 in
     let not-occupied = not (input .«occupancy_status») in
-    let population = unless override-to-zero (unless not-occupied population) in
-    let area = unless override-to-zero (unless not-occupied AREA_BREATHING_FLOW) in
-    let occupied-minimum = unless override-to-zero (unless not-occupied occupied-minimum) in
+    let population = if not-occupied then zero else population in
+    let area = if not-occupied then zero else AREA_BREATHING_FLOW in
+    let occupied-minimum = if not-occupied then zero else occupied-minimum in
+    let population = if override-to-zero then zero else population in
+    let area = if override-to-zero then zero else area in
+    let occupied-minimum = if override-to-zero then zero else occupied-minimum in
     let distribution-effectiveness = if cooling-supply then COOLING_DISTRIBUTION_EFFECTIVENESS else HEATING_DISTRIBUTION_EFFECTIVENESS in
     record {
       state = record { «cooling_supply» = cooling-supply };
@@ -260,6 +235,7 @@ setpoints s input =
 
 -- ---- Rust `active_airflow`; G36.TerminalUnits.CoolingOnly.Subsequences.ActiveAirFlow
 
+-- Rust `active_airflow`
 unfoldable pub active-airflow : ℤ → Float → ActiveAirflowOutput
 active-airflow operating-mode occupied-minimum =
     record {
@@ -272,11 +248,7 @@ active-airflow operating-mode occupied-minimum =
 abbrev pub fresh-zone-states : ZoneStatesState
 fresh-zone-states = record { «heating_signal» = false; «cooling_signal» = false; «heating_tiebreak» = false }
 
--- 1 heating, 3 cooling, 2 neither
-abbrev pub zone-state : Bool → Bool → ℤ
-zone-state is-heating is-cooling = if is-heating then pos 1 else if is-cooling then pos 3 else pos 2
-
--- Rust `ZoneStatesState::output`
+-- Rust `ZoneStatesState::output`: 1 heating, 3 cooling, 2 neither
 unfoldable pub zone-states : ZoneStatesState → Float → Float → ZoneStatesStep
 zone-states s heating cooling =
     let heating-signal = hysteresis heating (decimal 1 100) (decimal 5 100) (s .«heating_signal») in
@@ -286,5 +258,5 @@ zone-states s heating cooling =
     let is-cooling = not is-heating && cooling-signal in
     record {
       state = record { «heating_signal» = heating-signal; «cooling_signal» = cooling-signal; «heating_tiebreak» = heating-tiebreak };
-      output = zone-state is-heating is-cooling;
+      output = if is-heating then pos 1 else if is-cooling then pos 3 else pos 2;
     }

@@ -1,1 +1,2 @@
 pub mod Conditioning
+pub mod ConditioningPieces

@@ -3,6 +3,7 @@ ghost use mathlib.Core.Path.{_≡_};
 ghost use Rattle.f64_helpers.specs.F64.{decimal, zero};
 ghost use Rattle.cdl_recurrences.specs.CdlRecurrences.{buildings-line};
 ghost use Rattle.cooling_only_controller_conditioning.specs.Conditioning as Conditioning;
+ghost use Rattle.cooling_only_controller_conditioning.specs.ConditioningPieces as ConditioningPieces;
 use cdl_recurrences::OptionalTime;
 use cdl_recurrences::buildings_line;
 use cdl_recurrences::greater_hysteretic;
@@ -139,23 +140,23 @@ impl TimeSuppressionState {
     ) -> TimeSuppressionStep
         ensures { λ r. ⌜ r ≡ Conditioning.time-suppression self t «setpoint_temperature» «zone_temperature» ⌝ }
     {
-        let change = self.change(t, setpoint_temperature);
-        let detected = change.change_detected;
+        let change = self.change_detected(t, setpoint_temperature);
+        let change_detected = change.change_detected;
         let suppression = self.suppression_latch
-            .output(detected, self.previous_passed);
+            .output(change_detected, self.previous_passed);
         let active = suppression.output;
         let rising_active = active & !self.previous_active;
         let captured_setpoint = choose(rising_active, setpoint_temperature, self.captured_setpoint);
         let captured_zone = choose(rising_active, zone_temperature, self.captured_zone);
-        let window = suppression_window(captured_setpoint, captured_zone);
-        let timed = self.timer.elapsed(t, active);
-        let passed = timed.output > window;
+        let suppression_window = suppression_window(captured_setpoint, captured_zone);
+        let elapsed = self.timer.elapsed(t, active);
+        let passed = elapsed.output > suppression_window;
         let passed_latched = self.passed_latch.output(passed, rising_active);
         let state = time_suppression_state(
             change,
             suppression,
             passed_latched,
-            timed,
+            elapsed,
             passed,
             captured_setpoint,
             captured_zone,
@@ -167,25 +168,25 @@ impl TimeSuppressionState {
     }
 
     // The sampled setpoint against the one a period earlier, once the first period is over.
-    fn change(self, t: f64, setpoint_temperature: f64) -> ChangeStep
-        ensures { λ r. ⌜ r ≡ Conditioning.setpoint-change self t «setpoint_temperature» ⌝ }
+    fn change_detected(self, t: f64, setpoint_temperature: f64) -> ChangeStep
+        ensures { λ r. ⌜ r ≡ ConditioningPieces.change-detected self t «setpoint_temperature» ⌝ }
     {
-        let sampled = self.setpoint_sampler
+        let sampled_setpoint = self.setpoint_sampler
             .sample(t, setpoint_temperature, SAMPLE_PERIOD);
-        let prior = self.previous_sample
-            .sample(t, sampled.output, SAMPLE_PERIOD);
-        let startup = self.startup_delay.output(t, true, SAMPLE_PERIOD, true);
-        let difference = f64_helpers::abs(sampled.output - prior.output);
-        let change_magnitude = choose(startup.output, difference, 0.0);
+        let prior_sample = self.previous_sample
+            .sample(t, sampled_setpoint.output, SAMPLE_PERIOD);
+        let startup_complete = self.startup_delay.output(t, true, SAMPLE_PERIOD, true);
+        let difference = f64_helpers::abs(sampled_setpoint.output - prior_sample.output);
+        let change_magnitude = choose(startup_complete.output, difference, 0.0);
         let change_detected = greater_hysteretic(
             change_magnitude,
             TEMPERATURE_HYSTERESIS,
             0.5 * TEMPERATURE_HYSTERESIS,
             self.change_detected,
         );
-        let setpoint_sampler = sampled.state;
-        let previous_sample = prior.state;
-        let startup_delay = startup.state;
+        let setpoint_sampler = sampled_setpoint.state;
+        let previous_sample = prior_sample.state;
+        let startup_delay = startup_complete.state;
         ChangeStep {
             setpoint_sampler,
             previous_sample,
@@ -200,19 +201,19 @@ fn time_suppression_state(
     change: ChangeStep,
     suppression: LatchStep,
     passed_latched: LatchStep,
-    timed: TimerStep,
+    elapsed: TimerStep,
     passed: bool,
     captured_setpoint: f64,
     captured_zone: f64,
 ) -> TimeSuppressionState
-    ensures { λ r. ⌜ r ≡ Conditioning.time-suppression-state change suppression «passed_latched» timed passed «captured_setpoint» «captured_zone» ⌝ }
+    ensures { λ r. ⌜ r ≡ ConditioningPieces.time-suppression-state change suppression «passed_latched» elapsed passed «captured_setpoint» «captured_zone» ⌝ }
 {
     let setpoint_sampler = change.setpoint_sampler;
     let previous_sample = change.previous_sample;
     let startup_delay = change.startup_delay;
     let suppression_latch = suppression.state;
     let passed_latch = passed_latched.state;
-    let timer = timed.state;
+    let timer = elapsed.state;
     TimeSuppressionState {
         setpoint_sampler,
         previous_sample,
@@ -230,7 +231,7 @@ fn time_suppression_state(
 
 // Seconds for which requests wait: 540 for each kelvin, at most 1800.
 fn suppression_window(captured_setpoint: f64, captured_zone: f64) -> f64
-    ensures { λ r. ⌜ r ≡ Conditioning.suppression-window «captured_setpoint» «captured_zone» ⌝ }
+    ensures { λ r. ⌜ r ≡ ConditioningPieces.suppression-window «captured_setpoint» «captured_zone» ⌝ }
 {
     f64_helpers::min(
         540.0 * f64_helpers::abs(captured_setpoint - captured_zone),
@@ -318,7 +319,8 @@ struct LoopStep {
     output: f64,
 }
 
-// One loop: the PI runs on `above` less `below`, is enabled while below < above, and is cut to 0 once it has been near zero for a while with the loop off.
+// One loop, enabled while below < above. The PI runs on every tick, enabled or not, on `above` less `below`; its integrator is reset when the loop becomes enabled.
+// The signal is the PI's output, cut to 0 once that has been near zero for a while and the loop is not enabled.
 fn control_loop(
     t: f64,
     below: f64,
@@ -328,7 +330,7 @@ fn control_loop(
     was_near_zero: bool,
     delay: TrueDelayState,
 ) -> LoopStep
-    ensures { λ r. ⌜ r ≡ Conditioning.control-loop t below above «was_enabled» pi «was_near_zero» delay ⌝ }
+    ensures { λ r. ⌜ r ≡ ConditioningPieces.control-loop t below above «was_enabled» pi «was_near_zero» delay ⌝ }
 {
     let enable = less_hysteretic(below, above, TEMPERATURE_HYSTERESIS, was_enabled);
     let raw = pi.output(t, above - below, enable);
@@ -401,7 +403,7 @@ impl ControlLoopsState {
 
 // The two loops' memories and signals, put together.
 fn control_loops_step(cooling: LoopStep, heating: LoopStep) -> ControlLoopsStep
-    ensures { λ r. ⌜ r ≡ Conditioning.control-loops-step cooling heating ⌝ }
+    ensures { λ r. ⌜ r ≡ ConditioningPieces.control-loops-step cooling heating ⌝ }
 {
     let cooling_pi = cooling.pi;
     let heating_pi = heating.pi;
@@ -483,9 +485,12 @@ impl SetpointsState {
         );
         let population = unit_line(0.0, POPULATION_BREATHING_FLOW, corrected_co2);
         let not_occupied = !input.occupancy_status;
-        let population = unless(override_to_zero, unless(not_occupied, population));
-        let area = unless(override_to_zero, unless(not_occupied, AREA_BREATHING_FLOW));
-        let occupied_minimum = unless(override_to_zero, unless(not_occupied, occupied_minimum));
+        let population = unless(not_occupied, population);
+        let area = unless(not_occupied, AREA_BREATHING_FLOW);
+        let occupied_minimum = unless(not_occupied, occupied_minimum);
+        let population = unless(override_to_zero, population);
+        let area = unless(override_to_zero, area);
+        let occupied_minimum = unless(override_to_zero, occupied_minimum);
         let distribution_effectiveness = choose(
             cooling_supply,
             COOLING_DISTRIBUTION_EFFECTIVENESS,
@@ -512,7 +517,7 @@ fn unit_line(f1: f64, f2: f64, u: f64) -> f64
 
 // `if off { 0.0 } else { flow }`
 fn unless(off: bool, flow: f64) -> f64
-    ensures { λ r. ⌜ r ≡ Conditioning.unless off flow ⌝ }
+    ensures { λ r. ⌜ r ≡ ConditioningPieces.unless off flow ⌝ }
 {
     if off { 0.0 } else { flow }
 }
@@ -566,7 +571,8 @@ impl ZoneStatesState {
         let cooling_signal = hysteresis(cooling, 0.01, 0.05, self.cooling_signal);
         let heating_tiebreak = hysteresis(heating - cooling, -0.01, 0.01, self.heating_tiebreak);
         let is_heating = heating_signal & heating_tiebreak;
-        let output = zone_state(is_heating, !is_heating & cooling_signal);
+        let is_cooling = !is_heating & cooling_signal;
+        let output = zone_state(is_heating, is_cooling);
         ZoneStatesStep {
             state: ZoneStatesState {
                 heating_signal,
@@ -579,7 +585,7 @@ impl ZoneStatesState {
 }
 
 fn zone_state(is_heating: bool, is_cooling: bool) -> i64
-    ensures { λ r. ⌜ r ≡ Conditioning.zone-state «is_heating» «is_cooling» ⌝ }
+    ensures { λ r. ⌜ r ≡ ConditioningPieces.zone-state «is_heating» «is_cooling» ⌝ }
 {
     if is_heating {
         1

@@ -18,7 +18,7 @@ use Rattle.cooling_only_controller_airflow.specs.declared.DamperState.{DamperSt
 use Rattle.cooling_only_controller_airflow.specs.declared.DamperStep.{DamperStep}
 use Rattle.cooling_only_controller.specs.declared.AirflowSteps.{AirflowSteps}
 use Rattle.cooling_only_controller.specs.declared.ControllerInput.{ControllerInput}
-use Rattle.cooling_only_controller.specs.Controller.{airflow-steps, setpoint-input, damper-input}
+use Rattle.cooling_only_controller.specs.ControllerPieces.{airflow-steps, setpoint-input, damper-input}
 use borrow.Author.Needs.{needs}
 use Rattle.cooling_only_controller.proofs.airflow_steps.Statement.{statement}
 use Rattle.cooling_only_controller.proofs.airflow_steps.Tie as tie
@@ -45,23 +45,34 @@ steps-from t input l s z d loops wanted-setpoints flows active zone-step wanted-
 
 returns : tie.Need-returns
 returns c =
-    let a = c .before .before .before .before .before .before .before .before .before .before .before .args in
-    let mode = toZ-ofZ {w = w64} {z = a .input .«operating_mode»} (record { sfits = c .before .before .before .before .before .struct-told .given .1 .1 .1 .1 .1 .0 .1 }) in
-    let zone-is = toZ-ofZ {w = w64} {z = c .before .before .before .output3 .result .output} (record { sfits = c .before .before .struct-told2 .given .1 .0 .1 }) in
+    let at-damper-input = c .before in
+    let at-zone-state = at-damper-input .before in
+    let at-zone = at-zone-state .before in
+    let at-active = at-zone .before in
+    let at-mode = at-active .before in
+    let at-minimum = at-mode .before in
+    let at-flows = at-minimum .before in
+    let at-setpoint-input = at-flows .before in
+    let at-loop-output = at-setpoint-input .before in
+    let at-loops = at-loop-output .before in
+    let at-start = at-loops .before in
+    let a = at-start .args in
+    let mode = toZ-ofZ {w = w64} {z = a .input .«operating_mode»} (record { sfits = at-mode .struct-told .given .1 .1 .1 .1 .1 .0 .1 }) in
+    let zone-is = toZ-ofZ {w = w64} {z = at-zone .output3 .result .output} (record { sfits = at-zone-state .struct-told2 .given .1 .0 .1 }) in
     steps-from (a .t) (a .input) (a .control-loops) (a .setpoints) (a .zone-states) (a .dampers)
-    (c .before .before .before .before .before .before .before .before .before .before .output .result)
-    (c .before .before .before .before .before .before .before .before .setpoint-input .result)
-    (c .before .before .before .before .before .before .before .output2 .result)
-    (c .before .before .before .before .active-airflow .result)
-    (c .before .before .before .output3 .result)
-    (c .before .damper-input .result)
+    (at-loops .output .result)
+    (at-setpoint-input .setpoint-input .result)
+    (at-flows .output2 .result)
+    (at-active .active-airflow .result)
+    (at-zone .output3 .result)
+    (at-damper-input .damper-input .result)
     (c .output4 .result)
-    (c .before .before .before .before .before .before .before .before .before .before .output .ensures)
-    (c .before .before .before .before .before .before .before .before .setpoint-input .ensures)
-    (c .before .before .before .before .before .before .before .output2 .ensures)
-    (rw mode at (c .before .before .before .before .active-airflow .ensures))
-    (c .before .before .before .output3 .ensures)
-    (rw zone-is at (c .before .damper-input .ensures))
+    (at-loops .output .ensures)
+    (at-setpoint-input .setpoint-input .ensures)
+    (at-flows .output2 .ensures)
+    (rw mode at (at-active .active-airflow .ensures))
+    (at-zone .output3 .ensures)
+    (rw zone-is at (at-damper-input .damper-input .ensures))
     (c .output4 .ensures)
 
 pub airflow-steps-spec : {M : Type 1} → statement M

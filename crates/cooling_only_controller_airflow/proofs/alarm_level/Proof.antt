@@ -4,7 +4,12 @@ use Rattle.cooling_only_controller_airflow.proofs.alarm_level.Statement
 use Rattle.cooling_only_controller_airflow.proofs.alarm_level.Tie as tie
 
 returns : tie.Need-returns
-returns c = rw (toZ-ofZ (c .before .fits .level), c .if1 .taken)
+returns c =
+    let at-start = c .before in
+    rw (
+      toZ-ofZ (at-start .fits .level),
+      c .if1 .taken,
+    )
 
 returns-2 : tie.Need-returns-2
 returns-2 c = rw (c .if1 .left)

@@ -10,7 +10,15 @@ use Rattle.cooling_only_controller_conditioning.proofs.active_airflow.T
 
 returns : tie.Need-returns
 unfolding active-airflow ofBits round
-returns c = rw (c .choose2 .ensures, c .before .choose .ensures, toZ-ofZ (c .before .before .fits .operating-mode), equals-literal (c .before .before .args .operating-mode) 1 (c .before .before .fits .operating-mode) (lit< tt))
+returns c =
+    let at-cooling-maximum = c .before in
+    let at-start = at-cooling-maximum .before in
+    rw (
+      c .choose2 .ensures,
+      at-cooling-maximum .choose .ensures,
+      toZ-ofZ (at-start .fits .operating-mode),
+      equals-literal (at-start .args .operating-mode) 1 (at-start .fits .operating-mode) (lit< tt),
+    )
 
 pub active-airflow-spec : {M : Type 1} → statement M
 active-airflow-spec = tie.close (tie.spec (λ c κs. search needs) (λ c κs. search needs) returns)

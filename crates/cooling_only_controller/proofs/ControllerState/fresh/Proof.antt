@@ -4,7 +4,22 @@ use Rattle.cooling_only_controller.proofs.ControllerState.fresh.Stateme
 use Rattle.cooling_only_controller.proofs.ControllerState.fresh.Tie as tie
 
 returns : tie.Need-returns
-returns c = rw (c .fresh7 .ensures, c .before .fresh6 .ensures, c .before .before .fresh5 .ensures, c .before .before .before .fresh4 .ensures, c .before .before .before .before .fresh3 .ensures, c .before .before .before .before .before .fresh2 .ensures, c .before .before .before .before .before .before .fresh .ensures)
+returns c =
+    let at-system-requests = c .before in
+    let at-dampers = at-system-requests .before in
+    let at-zone-states = at-dampers .before in
+    let at-setpoints = at-zone-states .before in
+    let at-control-loops = at-setpoints .before in
+    let at-time-suppression = at-control-loops .before in
+    rw (
+      c .fresh7 .ensures,
+      at-system-requests .fresh6 .ensures,
+      at-dampers .fresh5 .ensures,
+      at-zone-states .fresh4 .ensures,
+      at-setpoints .fresh3 .ensures,
+      at-control-loops .fresh2 .ensures,
+      at-time-suppression .fresh .ensures,
+    )
 
 pub fresh-spec : {M : Type 1} → statement M
 fresh-spec =

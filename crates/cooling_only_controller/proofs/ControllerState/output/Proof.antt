@@ -12,7 +12,9 @@ use Rattle.cooling_only_controller_airflow.specs.declared.AlarmsStep.{AlarmsSte
 use Rattle.cooling_only_controller.specs.declared.AirflowSteps.{AirflowSteps}
 use Rattle.cooling_only_controller.specs.declared.ControllerInput.{ControllerInput}
 use Rattle.cooling_only_controller.specs.declared.ControllerState.{ControllerState}
-use Rattle.cooling_only_controller.specs.Controller.{controller-output, airflow-steps, request-input, alarm-input, controller-step}
+use Rattle.cooling_only_controller.specs.Controller.{controller-output}
+use Rattle.cooling_only_controller.specs.ControllerPieces.{airflow-steps, request-input, alarm-input, controller-step}
+use Rattle.cooling_only_controller.proofs.ByPieces.{controller-by-pieces}
 use borrow.Author.Needs.{needs}
 use Rattle.cooling_only_controller.proofs.ControllerState.output.Statement.{statement}
 use Rattle.cooling_only_controller.proofs.ControllerState.output.Tie as tie
@@ -32,26 +34,39 @@ whole-from : (s : ControllerState) (t : Float) (input : ControllerInput) (delay-
     → wanted-alarms ≡ alarm-input input (air .damper .output)
     → alarms-now ≡ alarms (s .alarms) t wanted-alarms delay-on-init
     → controller-step after air requests alarms-now ≡ controller-output s t input delay-on-init
-unfolding controller-output
-whole-from s t input delay-on-init after air wanted-requests requests wanted-alarms alarms-now e1 e2 e3 e4 e5 e6 = rw (e6, e5, e4, e3, e2, e1)
+whole-from s t input delay-on-init after air wanted-requests requests wanted-alarms alarms-now e1 e2 e3 e4 e5 e6 =
+    rw (e6, e5, e4, e3, e2, e1) (controller-by-pieces s t input delay-on-init)
 
 returns : tie.Need-returns
 returns c =
-    let a = c .before .before .before .before .before .before .before .before .before .before .before .before .before .args in
+    let at-alarms = c .before in
+    let at-alarm-input = at-alarms .before in
+    let at-requests = at-alarm-input .before in
+    let at-wanted = at-requests .before in
+    let at-flow = at-wanted .before in
+    let at-loop-output = at-flow .before in
+    let at-air = at-loop-output .before in
+    let at-dampers = at-air .before in
+    let at-zone = at-dampers .before in
+    let at-setpoints = at-zone .before in
+    let at-loops = at-setpoints .before in
+    let at-after-suppression = at-loops .before in
+    let at-start = at-after-suppression .before in
+    let a = at-start .args in
     c .controller-step .ensures
     ∙ whole-from (a .self) (a .t) (a .input) (a .delay-on-init)
-    (c .before .before .before .before .before .before .before .before .before .before .before .before .output .result)
-    (c .before .before .before .before .before .before .before .airflow-steps .result)
-    (c .before .before .before .before .request-input .result)
-    (c .before .before .before .output2 .result)
-    (c .before .before .alarm-input .result)
-    (c .before .output3 .result)
-    (c .before .before .before .before .before .before .before .before .before .before .before .before .output .ensures)
-    (c .before .before .before .before .before .before .before .airflow-steps .ensures)
-    (c .before .before .before .before .request-input .ensures)
-    (c .before .before .before .output2 .ensures)
-    (c .before .before .alarm-input .ensures)
-    (c .before .output3 .ensures)
+    (at-after-suppression .output .result)
+    (at-air .airflow-steps .result)
+    (at-wanted .request-input .result)
+    (at-requests .output2 .result)
+    (at-alarm-input .alarm-input .result)
+    (at-alarms .output3 .result)
+    (at-after-suppression .output .ensures)
+    (at-air .airflow-steps .ensures)
+    (at-wanted .request-input .ensures)
+    (at-requests .output2 .ensures)
+    (at-alarm-input .alarm-input .ensures)
+    (at-alarms .output3 .ensures)
 
 pub output-spec : {M : Type 1} → statement M
 output-spec =

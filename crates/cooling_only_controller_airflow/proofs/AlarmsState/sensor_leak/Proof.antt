@@ -3,7 +3,7 @@ use lib.Ieee.{ofBits, round}
 use mir.Facts.{toZ-ofZ}
 use Rattle.f64_helpers.proofs.Integers.{equals-literal}
 use lib.Dec.{lit<}
-use Rattle.cooling_only_controller_airflow.specs.Airflow.{sensor-leak-alarms}
+use Rattle.cooling_only_controller_airflow.specs.Airflow.{alarms}
 use borrow.Author.Needs.{needs}
 use Rattle.cooling_only_controller_airflow.proofs.AlarmsState.sensor_leak.Statement.{
   statement,
@@ -11,8 +11,30 @@ use Rattle.cooling_only_controller_airflow.proofs.AlarmsState.sensor_le
 use Rattle.cooling_only_controller_airflow.proofs.AlarmsState.sensor_leak.Tie as tie
 
 returns : tie.Need-returns
-unfolding sensor-leak-alarms ofBits round
-returns c = rw (toZ-ofZ (record { sfits = c .before .before .before .before .before .alarm-level .ok }), toZ-ofZ (record { sfits = c .before .before .alarm-level2 .ok }), c .before .before .alarm-level2 .ensures, c .before .before .before .output2 .ensures, c .before .before .before .before .less-hysteretic .ensures, c .before .before .before .before .before .alarm-level .ensures, c .before .before .before .before .before .before .before .output .ensures, c .before .before .before .before .before .before .before .before .greater-hysteretic .ensures, equals-literal (c .before .before .before .before .before .before .before .before .before .before .before .args .input .«operation_mode») 1 (record { sfits = c .before .before .before .before .before .before .before .before .before .struct-told .given .1 .1 .1 .0 .1 }) (lit< tt))
+unfolding alarms ofBits round
+returns c =
+    let at-sensor-delay = c .before in
+    let at-leaking-damper = at-sensor-delay .before in
+    let at-leak-held = at-leaking-damper .before in
+    let at-damper-closed = at-leak-held .before in
+    let at-airflow-sensor = at-damper-closed .before in
+    let at-sensor-and-occupied = at-airflow-sensor .before in
+    let at-sensor-held = at-sensor-and-occupied .before in
+    let at-flow-high = at-sensor-held .before in
+    let at-occupied = at-flow-high .before in
+    let at-mode = at-occupied .before in
+    let at-start = at-mode .before in
+    rw (
+      toZ-ofZ (record { sfits = at-airflow-sensor .alarm-level .ok }),
+      toZ-ofZ (record { sfits = at-leaking-damper .alarm-level2 .ok }),
+      at-leaking-damper .alarm-level2 .ensures,
+      at-leak-held .output2 .ensures,
+      at-damper-closed .less-hysteretic .ensures,
+      at-airflow-sensor .alarm-level .ensures,
+      at-sensor-held .output .ensures,
+      at-flow-high .greater-hysteretic .ensures,
+      equals-literal (at-start .args .input .«operation_mode») 1 (record { sfits = at-occupied .struct-told .given .1 .1 .1 .0 .1 }) (lit< tt),
+    )
 
 pub sensor-leak-spec : {M : Type 1} → statement M
 sensor-leak-spec =

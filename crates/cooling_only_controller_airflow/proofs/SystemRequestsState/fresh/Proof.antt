@@ -8,7 +8,12 @@ use Rattle.cooling_only_controller_airflow.proofs.SystemRequestsState.f
 
 returns : tie.Need-returns
 unfolding ofBits
-returns c = rw (c .fresh2 .ensures, c .before .fresh .ensures)
+returns c =
+    let at-delay = c .before in
+    rw (
+      c .fresh2 .ensures,
+      at-delay .fresh .ensures,
+    )
 
 pub fresh-spec : {M : Type 1} → statement M
 fresh-spec = tie.close (tie.spec (λ c κs. search needs) (λ c κs. search needs) returns)

@@ -1,5 +1,4 @@
 -- `cooling_only_controller_airflow::SystemRequestsState::output` meets its contract. Assumes nothing.
-use Rattle.cooling_only_controller_airflow.specs.Airflow.{system-requests}
 use borrow.Author.Needs.{needs}
 use Rattle.cooling_only_controller_airflow.proofs.SystemRequestsState.output.Statement.{
   statement,
@@ -7,8 +6,14 @@ use Rattle.cooling_only_controller_airflow.proofs.SystemRequestsState.o
 use Rattle.cooling_only_controller_airflow.proofs.SystemRequestsState.output.Tie as tie
 
 returns : tie.Need-returns
-unfolding system-requests
-returns c = rw (c .system-requests-step .ensures, c .before .pressure-request .ensures, c .before .before .temperature-request .ensures)
+returns c =
+    let at-pressure-request = c .before in
+    let at-temperature-request = at-pressure-request .before in
+    rw (
+      c .system-requests-step .ensures,
+      at-pressure-request .pressure-request .ensures,
+      at-temperature-request .temperature-request .ensures,
+    )
 
 pub output-spec : {M : Type 1} → statement M
 output-spec =

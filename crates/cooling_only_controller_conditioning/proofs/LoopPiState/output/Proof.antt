@@ -9,7 +9,16 @@ use Rattle.cooling_only_controller_conditioning.proofs.LoopPiState.outp
 
 returns : tie.Need-returns
 unfolding loop-pi ofBits round neg
-returns c = rw (c .choose .ensures, c .before .before .before .step-seconds .ensures, c .before .before .before .before .clamp .ensures)
+returns c =
+    let at-integrated = c .before in
+    let at-previous-trigger = at-integrated .before in
+    let at-dt = at-previous-trigger .before in
+    let at-limited = at-dt .before in
+    rw (
+      c .choose .ensures,
+      at-dt .step-seconds .ensures,
+      at-limited .clamp .ensures,
+    )
 
 pub output-spec : {M : Type 1} → statement M
 output-spec = tie.close (tie.spec (λ c κs. search needs) (λ c κs. search needs) (λ c κs. search needs) returns)

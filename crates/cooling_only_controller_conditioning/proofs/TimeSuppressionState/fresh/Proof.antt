@@ -8,7 +8,18 @@ use Rattle.cooling_only_controller_conditioning.proofs.TimeSuppressionS
 
 returns : tie.Need-returns
 unfolding ofBits
-returns c = rw (c .fresh5 .ensures, c .before .fresh4 .ensures, c .before .before .fresh3 .ensures, c .before .before .before .fresh2 .ensures, c .before .before .before .before .fresh .ensures)
+returns c =
+    let at-latch = c .before in
+    let at-startup-delay = at-latch .before in
+    let at-previous-sample = at-startup-delay .before in
+    let at-setpoint-sampler = at-previous-sample .before in
+    rw (
+      c .fresh5 .ensures,
+      at-latch .fresh4 .ensures,
+      at-startup-delay .fresh3 .ensures,
+      at-previous-sample .fresh2 .ensures,
+      at-setpoint-sampler .fresh .ensures,
+    )
 
 pub fresh-spec : {M : Type 1} → statement M
 fresh-spec =

@@ -1,5 +1,6 @@
 -- `cooling_only_controller_conditioning::TimeSuppressionState::output` meets its contract. Assumes nothing.
 use Rattle.cooling_only_controller_conditioning.specs.Conditioning.{time-suppression}
+use Rattle.cooling_only_controller_conditioning.specs.ConditioningPieces.{suppression-window}
 use mathlib.Core.Path.{_≡_, refl}
 use mathlib.Core.Bool.{Bool, true, false, not, _||_, cond}
 use borrow.Author.Needs.{needs}
@@ -13,8 +14,29 @@ either true p = refl
 either false p = refl
 
 returns : tie.Need-returns
-unfolding time-suppression
-returns c = rw (either (c .before .before .before .before .before .before .before .before .before .output .result .output) (c .before .before .output2 .result .output), c .before .time-suppression-state .ensures, c .before .before .output2 .ensures, c .before .before .before .before .elapsed .ensures, c .before .before .before .before .before .suppression-window .ensures, c .before .before .before .before .before .before .choose2 .ensures, c .before .before .before .before .before .before .before .choose .ensures, c .before .before .before .before .before .before .before .before .before .output .ensures, c .before .before .before .before .before .before .before .before .before .before .change .ensures)
+unfolding time-suppression suppression-window
+returns c =
+    let at-state = c .before in
+    let at-passed-latched = at-state .before in
+    let at-passed = at-passed-latched .before in
+    let at-elapsed = at-passed .before in
+    let at-suppression-window = at-elapsed .before in
+    let at-captured-zone = at-suppression-window .before in
+    let at-captured-setpoint = at-captured-zone .before in
+    let at-rising-active = at-captured-setpoint .before in
+    let at-active = at-rising-active .before in
+    let at-change = at-active .before in
+    rw (
+      either (at-active .output .result .output) (at-passed-latched .output2 .result .output),
+      at-state .time-suppression-state .ensures,
+      at-passed-latched .output2 .ensures,
+      at-elapsed .elapsed .ensures,
+      at-suppression-window .suppression-window .ensures,
+      at-captured-zone .choose2 .ensures,
+      at-captured-setpoint .choose .ensures,
+      at-active .output .ensures,
+      at-change .change-detected .ensures,
+    )
 
 pub output-spec : {M : Type 1} → statement M
 output-spec =

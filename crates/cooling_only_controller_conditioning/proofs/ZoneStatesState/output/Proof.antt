@@ -10,7 +10,17 @@ use Rattle.cooling_only_controller_conditioning.proofs.ZoneStatesState.
 
 returns : tie.Need-returns
 unfolding zone-states ofBits round neg
-returns c = rw (toZ-ofZ (record { sfits = c .zone-state .ok }), c .zone-state .ensures, c .before .hysteresis3 .ensures, c .before .before .hysteresis2 .ensures, c .before .before .before .hysteresis .ensures)
+returns c =
+    let at-heating-tiebreak = c .before in
+    let at-cooling-signal = at-heating-tiebreak .before in
+    let at-heating-signal = at-cooling-signal .before in
+    rw (
+      toZ-ofZ (record { sfits = c .zone-state .ok }),
+      c .zone-state .ensures,
+      at-heating-tiebreak .hysteresis3 .ensures,
+      at-cooling-signal .hysteresis2 .ensures,
+      at-heating-signal .hysteresis .ensures,
+    )
 
 pub output-spec : {M : Type 1} → statement M
 output-spec =

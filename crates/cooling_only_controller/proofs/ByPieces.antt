@@ -1,0 +1,20 @@
+-- The pieces of ControllerPieces.antt make up `controller-output`. Assumes nothing.
+use mathlib.Core.Path.{_≡_, refl}
+use mathlib.Core.Bool.{Bool}
+use lib.Ieee.{Float}
+use Rattle.cooling_only_controller_conditioning.specs.Conditioning.{time-suppression}
+use Rattle.cooling_only_controller_airflow.specs.Airflow.{system-requests, alarms}
+use Rattle.cooling_only_controller.specs.Controller.{controller-output}
+use Rattle.cooling_only_controller.specs.ControllerPieces.{airflow-steps, request-input, alarm-input, controller-step}
+use Rattle.cooling_only_controller.specs.declared.ControllerInput.{ControllerInput}
+use Rattle.cooling_only_controller.specs.declared.ControllerState.{ControllerState}
+
+pub controller-by-pieces : (s : ControllerState) (t : Float) (input : ControllerInput) (delay-on-init : Bool)
+    → let after-suppression = time-suppression (s .«time_suppression») t (input .«cooling_setpoint») (input .«zone_temperature») in
+    let air = airflow-steps t input (s .«control_loops») (s .setpoints) (s .«zone_states») (s .dampers) in
+    let wanted = request-input input (after-suppression .output) (air .loops .output) (air .damper .output) in
+    let requests = system-requests (s .«system_requests») t wanted delay-on-init in
+    let alarms-step = alarms (s .alarms) t (alarm-input input (air .damper .output)) delay-on-init in
+    controller-step after-suppression air requests alarms-step ≡ controller-output s t input delay-on-init
+unfolding controller-output airflow-steps
+controller-by-pieces s t input delay-on-init = refl

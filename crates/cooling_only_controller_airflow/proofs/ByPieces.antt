@@ -1,0 +1,37 @@
+-- The pieces of AirflowPieces.antt make up the stages of Airflow.antt. Assumes nothing.
+use mathlib.Core.Path.{_≡_, refl}
+use mathlib.Core.Bool.{Bool}
+use lib.Ieee.{Float}
+use Rattle.cooling_only_controller_airflow.specs.Airflow.{damper, system-requests, alarms}
+use Rattle.cooling_only_controller_airflow.specs.AirflowPieces.{
+  airflow-override,
+  airflow-setpoint,
+  temperature-request,
+  pressure-request,
+  system-requests-step,
+  low-airflow,
+  sensor-leak,
+  alarms-step,
+}
+use Rattle.cooling_only_controller_airflow.specs.declared.DamperInput.{DamperInput}
+use Rattle.cooling_only_controller_airflow.specs.declared.DamperState.{DamperState}
+use Rattle.cooling_only_controller_airflow.specs.declared.SystemRequestInput.{SystemRequestInput}
+use Rattle.cooling_only_controller_airflow.specs.declared.SystemRequestsState.{SystemRequestsState}
+use Rattle.cooling_only_controller_airflow.specs.declared.AlarmInput.{AlarmInput}
+use Rattle.cooling_only_controller_airflow.specs.declared.AlarmsState.{AlarmsState}
+
+-- the damper's airflow setpoint; `damper-override` has no more to it than the match that stands at the end of `damper`
+pub damper-by-pieces : (s : DamperState) (t : Float) (input : DamperInput)
+    → airflow-setpoint input (damper s t input .state .«supply_warm») ≡ damper s t input .output .«airflow_setpoint»
+unfolding damper airflow-setpoint airflow-override
+damper-by-pieces s t input = refl
+
+pub system-requests-by-pieces : (s : SystemRequestsState) (t : Float) (input : SystemRequestInput) (delay-on-init : Bool)
+    → system-requests-step (temperature-request s t input delay-on-init) (pressure-request s t input delay-on-init)
+    ≡ system-requests s t input delay-on-init
+system-requests-by-pieces s t input delay-on-init = refl
+
+pub alarms-by-pieces : (s : AlarmsState) (t : Float) (input : AlarmInput) (delay-on-init : Bool)
+    → alarms-step (low-airflow s t input delay-on-init) (sensor-leak s t input delay-on-init)
+    ≡ alarms s t input delay-on-init
+alarms-by-pieces s t input delay-on-init = refl
