@@ -4,7 +4,7 @@ use Prim.Native.Nat.{ℕ}
 use mathlib.Core.Bool.{true}
 use Rattle.cooling_only_controller_conditioning.specs.Conditioning.{time-suppression}
 use Rattle.cooling_only_controller_airflow.specs.Airflow.{system-requests, alarms}
-use Rattle.cooling_only_controller.specs.Controller.{airflow-steps, request-input, alarm-input, outputs}
+use Rattle.cooling_only_controller.specs.ControllerPieces.{airflow-steps, request-input, alarm-input, outputs}
 use Rattle.cooling_only_controller.specs.declared.AirflowSteps.{AirflowSteps}
 use Rattle.air_box.specs.AirBox.{questions, refusal-number}
 use Rattle.air_box.specs.declared.Tick.{Tick}
