@@ -47,7 +47,9 @@ pub(crate) use input_of;
 /// A published controller with its state, plain or quiet.
 pub trait Controller {
     fn answer(&mut self, tick: &Tick) -> Answer;
+    #[cfg(fields)]
     fn paths(&self) -> Vec<String>;
+    #[cfg(fields)]
     fn values(&self, values: &mut Vec<Value>);
 }
 
@@ -89,6 +91,7 @@ impl AirBox {
     }
 
     /// The paths of the controller's fields, and of the two that the box adds.
+    #[cfg(fields)]
     pub fn paths(&self) -> Vec<String> {
         let mut paths = self.controller.paths();
         paths.extend(["last.time".into(), "last.quiet".into()]);
@@ -96,6 +99,7 @@ impl AirBox {
     }
 
     /// Their values, in the same order.
+    #[cfg(fields)]
     pub fn values(&self, values: &mut Vec<Value>) {
         self.controller.values(values);
         values.extend([Value::time(self.last), Value::Flag(self.quiet.into())]);

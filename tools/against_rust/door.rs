@@ -31,11 +31,13 @@ impl crate::answer::Controller for ControllerState {
         }
     }
 
+    #[cfg(fields)]
     fn paths(&self) -> Vec<String> {
         let places = crate::fields::places::<ControllerState>();
         places.into_iter().map(|place| place.path).collect()
     }
 
+    #[cfg(fields)]
     fn values(&self, values: &mut Vec<crate::fields::Value>) {
         crate::fields::Fields::values(self, values)
     }

@@ -1,5 +1,5 @@
 //! The fields of a record one by one, each by its path and its bits. Shared by the programs, each of which uses a part of it.
-#![allow(dead_code)]
+#![allow(dead_code, unused_macros, unused_imports)]
 
 use std::collections::HashMap;
 use std::fmt;

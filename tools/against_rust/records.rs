@@ -133,7 +133,7 @@ fn c_layout(text: &str) -> Known<Vec<String>> {
 fn run(kind: &str, path: &str) -> Known<()> {
     let text = fs::read_to_string(path).map_err(|e| e.to_string())?;
     if kind == "rust" {
-        rust_records(&text)?.iter().for_each(|r| r.print("\ncrate::fields::fields_of"));
+        rust_records(&text)?.iter().for_each(|r| r.print("\n#[cfg(fields)]\ncrate::fields::fields_of"));
         return Ok(());
     }
     c_records(&text)?.iter().for_each(|r| r.print("record"));
