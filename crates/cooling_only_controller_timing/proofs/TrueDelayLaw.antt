@@ -3,7 +3,7 @@ use mathlib.Core.Path.{_≡_, refl, sym, ap, _∙_, subst}
 use mathlib.Core.Logic.{_↔_, _⊎_, inl, inr, ⊎-elim, Iff·trans}
 use mathlib.Core.List.{List, [], _∷_, _++_}
 use Prim.Native.Nat.{ℕ, _+_, _-_, _≤_, _<_, zero-le}
-use native.Mathlib.Nat.{max-zero, le-refl}
+use native.Mathlib.Nat.{max-zero as maxℕ-zero, le-refl}
 use native.Mathlib.Omega.{arith}
 use mathlib.Core.Bool.{Bool, true, false, not, _&&_, cond}
 use lib.IntN.{pos}
@@ -118,7 +118,7 @@ counts-from-zero d delay-on-init h t none = (0, zero-whole, zero-le, λ now l. (
 next-whole : (t p x : Float) (n : ℕ) → IsTime t → IsTime p → seconds p ≤ seconds t → Whole x n → n ≤ seconds p → Whole (x ⊕ max (t ⊖ p) zero) (n + (seconds t - seconds p))
 next-whole t p x n it ip l w b =
     let gap : Whole (max (t ⊖ p) zero) (seconds t - seconds p) =
-    subst (Whole (max (t ⊖ p) zero)) (max-zero (seconds t - seconds p))
+    subst (Whole (max (t ⊖ p) zero)) (maxℕ-zero (seconds t - seconds p))
     (max-whole (t ⊖ p) zero (seconds t - seconds p) 0 (sub-whole binary64 t p (seconds t) (seconds p) (it .0) (ip .0) l (omega arith)) zero-whole) in
     add-whole binary64 x (max (t ⊖ p) zero) n (seconds t - seconds p) w gap (omega arith)
 
