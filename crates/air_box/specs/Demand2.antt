@@ -25,7 +25,7 @@ pub record Stepped (box : AirBox) (k : Tick) : Type 0 where
   pub next-state : tick box k .state .state ≡ controller-step-of box k .state
   -- its time is the last accepted one
   pub last-time : tick box k .state .«last_time» ≡ At (k .t)
-  -- nothing else of the box changes
+  -- the start choice, which is all else that a box holds, stays
   pub start-kept : tick box k .state .start ≡ box .start
 
 abbrev pub Demand2 : Type 0

@@ -1,4 +1,5 @@
--- What the C interface promises: `air_box_fresh` gives a box as `Fresh` has it, `air_box_tick` leaves its records as `Ticked` has them.
+-- What the C interface promises: `air_box_fresh` gives a box as `Fresh` has it, `air_box_tick` leaves its records as `Ticked` has them,
+-- and `air_box_desk_code` gives the box's own `desk-code`.
 -- What `Ticked` says to a caller, number by number, stands in Demand1InC.antt.
 use Prim.Native.Nat.{ℕ}
 use mathlib.Core.Path.{_≡_}

@@ -79,7 +79,7 @@ HEATING_DISTRIBUTION_EFFECTIVENESS = decimal 8 10
 abbrev pub fresh-latch : LatchState
 fresh-latch = record { held = false; «previous_input» = false }
 
--- Rust `LatchState::output`: set by a rising input, held until cleared; the clear wins
+-- Rust `LatchState::output`: set by a rising input, held until cleared; the clear wins. The `latch` of cdl_recurrences.rs is not taken.
 unfoldable pub latch : LatchState → Bool → Bool → LatchStep
 latch s input clear =
     let output = not clear && ((input && not (s .«previous_input»)) || s .held) in
@@ -235,7 +235,6 @@ setpoints s input =
 
 -- ---- Rust `active_airflow`; G36.TerminalUnits.CoolingOnly.Subsequences.ActiveAirFlow
 
--- Rust `active_airflow`
 unfoldable pub active-airflow : ℤ → Float → ActiveAirflowOutput
 active-airflow operating-mode occupied-minimum =
     record {

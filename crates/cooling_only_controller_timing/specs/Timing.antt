@@ -60,7 +60,7 @@ unit-delay-sample s t input period =
 abbrev pub fresh-true-delay : TrueDelayState
 fresh-true-delay = record { «previous_time» = Absent; «previous_input» = false; held = false; timer = zero }
 
--- Rust `TrueDelayState::output`
+-- Rust `TrueDelayState::output`; not the `true_delay` of cdl_recurrences.rs, another recurrence, which the controller does not call
 unfoldable pub true-delay : TrueDelayState → Float → Bool → Float → Bool → TrueDelayStep
 true-delay s t input delay-time delay-on-init =
     let next = true-delay-output t input delay-time delay-on-init (s .«previous_time») (s .«previous_input») (s .held) (s .timer) in

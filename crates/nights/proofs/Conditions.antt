@@ -36,29 +36,29 @@ module _ (input : List Tick → Bool) (Holds : List Tick → Tick → Type 0) (m
     abbrev Since : List Tick → Type 0
     Since h = TrueSince length delay-on-init (seconds (now .t)) (samples input h)
 
-    -- The tick `start` is k or stands in h. The condition held at the ticks `since`.
-    start-found : (h : List Tick) (k : Tick) (since : List Tick) → T (input (k ∷ h)) → (seconds (k .t) + length ≤ seconds (now .t)) ⊎ Since h
+    -- The tick `begin` is k or stands in h. The condition held at the ticks `since`.
+    begin-found : (h : List Tick) (k : Tick) (since : List Tick) → T (input (k ∷ h)) → (seconds (k .t) + length ≤ seconds (now .t)) ⊎ Since h
         → HoldsAlong Holds (in-order (k ∷ h)) since → HeldFor Holds length delay-on-init (in-order h ++ (k ∷ since)) now
-    start-found [] k since u o a =
-        record { earlier = []; start = k; since = since; parts = refl; held = (means [] k .0 u, a); long = ⊎-elim (λ l. inl l) (λ r. inr (refl, r)) o }
-    start-found (j ∷ h) k since u (inl l) a =
-        record { earlier = in-order (j ∷ h); start = k; since = since; parts = refl; held = (means (j ∷ h) k .0 u, a); long = inl l }
-    start-found (j ∷ h) k since u (inr o) a = rw append-assoc (start-found h j (k ∷ since) (o .0) (o .1) (means (j ∷ h) k .0 u, a))
+    begin-found [] k since u o a =
+        record { earlier = []; begin = k; since = since; parts = refl; held = (means [] k .0 u, a); long = ⊎-elim (λ l. inl l) (λ r. inr (refl, r)) o }
+    begin-found (j ∷ h) k since u (inl l) a =
+        record { earlier = in-order (j ∷ h); begin = k; since = since; parts = refl; held = (means (j ∷ h) k .0 u, a); long = inl l }
+    begin-found (j ∷ h) k since u (inr o) a = rw append-assoc (begin-found h j (k ∷ since) (o .0) (o .1) (means (j ∷ h) k .0 u, a))
 
     stays-true : (h since : List Tick) → Since h → HoldsAlong Holds (in-order h) since → Since (extended h since)
     stays-true h [] o a = o
     stays-true h (k ∷ since) o a = stays-true (k ∷ h) since (means h k .1 (a .0), inr o) (a .1)
 
     since-law : (h : List Tick) (k : Tick) → Since (k ∷ h) ↔ HeldFor Holds length delay-on-init (in-order (k ∷ h)) now
-    since-law h k = (λ o. start-found h k [] (o .0) (o .1) tt, back)
+    since-law h k = (λ o. begin-found h k [] (o .0) (o .1) tt, back)
       where
         back : HeldFor Holds length delay-on-init (in-order (k ∷ h)) now → Since (k ∷ h)
         back f =
             let older = extended [] (f .earlier) in
-            let a : HoldsAlong Holds (in-order older) (f .start ∷ f .since) = rw (in-order-extended [] (f .earlier)) (f .held) in
-            let o : Since (f .start ∷ older) = (means older (f .start) .1 (a .0), ⊎-elim (λ l. inl l) (λ e. inr (subst (λ (b : List Tick). Since (extended [] b)) (sym (e .0)) (e .1))) (f .long)) in
-            subst Since (history-of-parts (k ∷ h) (f .earlier) (f .start) (f .since) (f .parts))
-            (stays-true (f .start ∷ older) (f .since) o (a .1))
+            let a : HoldsAlong Holds (in-order older) (f .begin ∷ f .since) = rw (in-order-extended [] (f .earlier)) (f .held) in
+            let o : Since (f .begin ∷ older) = (means older (f .begin) .1 (a .0), ⊎-elim (λ l. inl l) (λ e. inr (subst (λ (b : List Tick). Since (extended [] b)) (sym (e .0)) (e .1))) (f .long)) in
+            subst Since (history-of-parts (k ∷ h) (f .earlier) (f .begin) (f .since) (f .parts))
+            (stays-true (f .begin ∷ older) (f .since) o (a .1))
 
   pub held-for-law : (delay-time : Float) → Reach delay-time length → (h : List Tick) (k : Tick) → AllAccepted (k ∷ h)
       → T (true-delay-after delay-time delay-on-init (samples input (k ∷ h)) .held) ↔ HeldFor Holds length delay-on-init (in-order (k ∷ h)) k

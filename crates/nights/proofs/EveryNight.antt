@@ -23,7 +23,7 @@ exact-alarm start h k a =
 
 pub every-night-exactly : (start : Start) → EveryNightExactly start
 every-night-exactly start night =
-    along start (λ (earlier : List Tick) (s : NightStep). ExactGiven start earlier (s .tick) (s .given))
+    along start (λ (earlier : List Tick) (s : NightStep). ExactGiven start earlier (s .ticked) (s .given))
     (λ h k a. (rw (last-in-order h) (a .0), exact-alarm start h k a))
     (λ h k reason a first. (reason, rw (last-in-order h) first, refl))
     [] night tt

@@ -42,12 +42,12 @@ grown-refuses start h k reason first = tick-refused (grown start h) k reason (su
 
 -- a step of a night, by what the box's tick gives
 abbrev step-by : Tick → AirBoxStep → NightStep
-step-by k s = record { tick = k; given = outputs-or-number (s .answer); box = s .state }
+step-by k s = record { ticked = k; given = outputs-or-number (s .answer); box = s .state }
 
 -- ---- along a night
 module _ (start : Start) (P : List Tick → NightStep → Type 0)
-    (accepted : (h : List Tick) (k : Tick) → AllAccepted (k ∷ h) → P (in-order h) (record { tick = k; given = inl (controller-step-of (grown start h) k .output); box = grown start (k ∷ h) }))
-    (refused : (h : List Tick) (k : Tick) (reason : Refusal) → AllAccepted h → FirstNo reason (newest-time h) k → P (in-order h) (record { tick = k; given = inr (refusal-number reason); box = grown start h })) where
+    (accepted : (h : List Tick) (k : Tick) → AllAccepted (k ∷ h) → P (in-order h) (record { ticked = k; given = inl (controller-step-of (grown start h) k .output); box = grown start (k ∷ h) }))
+    (refused : (h : List Tick) (k : Tick) (reason : Refusal) → AllAccepted h → FirstNo reason (newest-time h) k → P (in-order h) (record { ticked = k; given = inr (refusal-number reason); box = grown start h })) where
   pub along : (h ks : List Tick) → AllAccepted h → Along P (in-order h) (steps (grown start h) ks)
   unfolding accepted-tick
   along h [] a = tt
@@ -61,7 +61,7 @@ module _ (start : Start) (P : List Tick → NightStep → Type 0)
 -- each was accepted after the one before it, the first after the history h, and its outputs are those of the box that had accepted these
 abbrev pub ShownAfter : Start → List Tick → List Shown → Type 0
 ShownAfter start h [] = Unit
-ShownAfter start h (s ∷ rest) = AllYes (newest-time h) (s .tick) × (s .output ≡ controller-step-of (grown start h) (s .tick) .output) × ShownAfter start (s .tick ∷ h) rest
+ShownAfter start h (s ∷ rest) = AllYes (newest-time h) (s .ticked) × (s .output ≡ controller-step-of (grown start h) (s .ticked) .output) × ShownAfter start (s .ticked ∷ h) rest
 
 pub shown-after : (start : Start) (h ks : List Tick) → ShownAfter start h (shown (steps (grown start h) ks))
 unfolding accepted-tick

@@ -37,18 +37,18 @@ carried (j ∷ g) (k ∷ h) r t = fan-off-kept (high-after H (j ∷ g)) (high-af
 
 -- ---- along two nights
 three-kept : (start : Start) (g h : List Tick) (ss rs : List Shown) → AllAccepted g → AllAccepted h → Related NoWeaker g h → ShownAfter start g ss → ShownAfter start h rs
-    → Related (λ (a b : Shown). NoWeaker (a .tick) (b .tick)) ss rs → Related (λ (a b : Shown). ThreeIfThree (a .output) (b .output)) ss rs
+    → Related (λ (a b : Shown). NoWeaker (a .ticked) (b .ticked)) ss rs → Related (λ (a b : Shown). ThreeIfThree (a .output) (b .output)) ss rs
 three-kept start g h [] [] a b r p q w = tt
 three-kept start g h [] (k ∷ rs) a b r p q w = absurd w
 three-kept start g h (j ∷ ss) [] a b r p q w = absurd w
 three-kept start g h (j ∷ ss) (k ∷ rs) a b r p q w = (
   rw (p .1, q .1) (λ e.
-      let f = alarm-is-three start g (j .tick) .0 e in
-      alarm-is-three start h (k .tick) .1 (
+      let f = alarm-is-three start g (j .ticked) .0 e in
+      alarm-is-three start h (k .ticked) .1 (
         sym (w .0 .modes) ∙ f .0,
-        held-kept high-fan-off NoWeaker same-seconds carried (decimal 600 1) 600 delay-reached (delay-on-init start) (j .tick ∷ g) (k .tick ∷ h) (p .0, a) (q .0, b) (w .0, r) (f .1),
+        held-kept high-fan-off NoWeaker same-seconds carried (decimal 600 1) 600 delay-reached (delay-on-init start) (j .ticked ∷ g) (k .ticked ∷ h) (p .0, a) (q .0, b) (w .0, r) (f .1),
       )),
-  three-kept start (j .tick ∷ g) (k .tick ∷ h) ss rs (p .0, a) (q .0, b) (w .0, r) (p .2) (q .2) (w .1),
+  three-kept start (j .ticked ∷ g) (k .ticked ∷ h) ss rs (p .0, a) (q .0, b) (w .0, r) (p .2) (q .2) (w .1),
 )
 
 pub two-nights : (start : Start) → TwoNights start

@@ -64,7 +64,7 @@ ExactGiven start earlier k (inr number) = (reason : Refusal) × FirstNo reason (
 abbrev pub EveryNightExactly : Start → Type 0
 EveryNightExactly start =
     (night : List Tick)
-    → Along (λ (earlier : List Tick) (s : NightStep). ExactGiven start earlier (s .tick) (s .given)) [] (night-of start night)
+    → Along (λ (earlier : List Tick) (s : NightStep). ExactGiven start earlier (s .ticked) (s .given)) [] (night-of start night)
 
 -- ---- two nights
 
@@ -85,7 +85,7 @@ ThreeIfThree a b = a .«airflow_sensor_alarm» ≡ pos 3 → b .«airflow_sensor
 abbrev pub TwoNights : Start → Type 0
 TwoNights start =
     (first second : List Tick)
-    → Related (λ (a b : Shown). NoWeaker (a .tick) (b .tick)) (shown (night-of start first)) (shown (night-of start second))
+    → Related (λ (a b : Shown). NoWeaker (a .ticked) (b .ticked)) (shown (night-of start first)) (shown (night-of start second))
     → Related (λ (a b : Shown). ThreeIfThree (a .output) (b .output)) (shown (night-of start first)) (shown (night-of start second))
 
 -- ---- demand 3

@@ -24,14 +24,14 @@ use Rattle.air_box.specs.declared.Start.{Start}
 
 -- a tick of a night, what the box gave for it, and the box after it
 pub record NightStep : Type 0 where
-  pub tick : Tick
+  pub ticked : Tick
   pub given : ControllerOutput ⊎ ℕ
   pub box : AirBox
 
 -- Each tick gets the box that the one before it left.
 abbrev pub steps : AirBox → List Tick → List NightStep
 steps box [] = []
-steps box (k ∷ ks) = record { tick = k; given = given-for box k; box = tick box k .state } ∷ steps (tick box k .state) ks
+steps box (k ∷ ks) = record { ticked = k; given = given-for box k; box = tick box k .state } ∷ steps (tick box k .state) ks
 
 -- the night of a box that is freshly built
 abbrev pub night-of : Start → List Tick → List NightStep
@@ -47,7 +47,7 @@ accepted-after earlier k (inr number) = earlier
 -- P holds of each step of a night, and of the ticks that were accepted before it. Before the night those were `earlier`.
 abbrev pub Along : (List Tick → NightStep → Type 0) → List Tick → List NightStep → Type 0
 Along P earlier [] = Unit
-Along P earlier (s ∷ rest) = P earlier s × Along P (accepted-after earlier (s .tick) (s .given)) rest
+Along P earlier (s ∷ rest) = P earlier s × Along P (accepted-after earlier (s .ticked) (s .given)) rest
 
 -- the time of the last of the accepted ticks
 abbrev pub last-time : List Tick → OptionalTime
@@ -57,17 +57,17 @@ last-time (j ∷ k ∷ ks) = last-time (k ∷ ks)
 
 -- an accepted tick and its own outputs
 pub record Shown : Type 0 where
-  pub tick : Tick
+  pub ticked : Tick
   pub output : ControllerOutput
 
 abbrev pub shown-before : Tick → ControllerOutput ⊎ ℕ → List Shown → List Shown
-shown-before k (inl output) rest = record { tick = k; output = output } ∷ rest
+shown-before k (inl output) rest = record { ticked = k; output = output } ∷ rest
 shown-before k (inr number) rest = rest
 
 -- the accepted ticks of a night, each with its own outputs, in order
 abbrev pub shown : List NightStep → List Shown
 shown [] = []
-shown (s ∷ rest) = shown-before (s .tick) (s .given) (shown rest)
+shown (s ∷ rest) = shown-before (s .ticked) (s .given) (shown rest)
 
 -- ---- what a tick carries
 
@@ -110,14 +110,14 @@ abbrev pub HoldsAlong : (List Tick → Tick → Type 0) → List Tick → List T
 HoldsAlong Holds earlier [] = Unit
 HoldsAlong Holds earlier (k ∷ ks) = Holds earlier k × HoldsAlong Holds (earlier ++ (k ∷ [])) ks
 
--- Of the accepted ticks, the last of which is k: it has held at every one from `start` up to k,
--- and `start` is at least `length` seconds back, or, unless `delay-on-init`, it is the very first.
+-- Of the accepted ticks, the last of which is k: it has held at every one from `begin` up to k,
+-- and `begin` is at least `length` seconds back, or, unless `delay-on-init`, it is the very first.
 -- Accepted times are whole numbers of seconds, so `seconds` of one is the time itself.
 pub record HeldFor (Holds : List Tick → Tick → Type 0) (length : ℕ) (delay-on-init : Bool)
     (accepted : List Tick) (k : Tick) : Type 0 where
   pub earlier : List Tick
-  pub start : Tick
+  pub begin : Tick
   pub since : List Tick
-  pub parts : accepted ≡ earlier ++ (start ∷ since)
-  pub held : HoldsAlong Holds earlier (start ∷ since)
-  pub long : (seconds (start .t) + length ≤ seconds (k .t)) ⊎ ((earlier ≡ []) × T (not delay-on-init))
+  pub parts : accepted ≡ earlier ++ (begin ∷ since)
+  pub held : HoldsAlong Holds earlier (begin ∷ since)
+  pub long : (seconds (begin .t) + length ≤ seconds (k .t)) ⊎ ((earlier ≡ []) × T (not delay-on-init))
