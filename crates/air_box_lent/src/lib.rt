@@ -1,4 +1,4 @@
-// The entry that ticks a box lent for change, as the Rust's `output` does: thin over the method by value.
+// A tick of a box behind `&mut`, as the Rust's `output` has it: the method by value, and its box stored.
 ghost use mathlib.Core.Path.{_≡_};
 ghost use Rattle.air_box.specs.AirBox as AirBoxes;
 use air_box::AirBox;

@@ -13,7 +13,7 @@ use Rattle.cdl_recurrences.specs.declared.OptionalTime.the-variants.{Abs
 use Rattle.cdl_recurrences.specs.declared.TrueDelayOutput.{TrueDelayOutput}
 use Rattle.cdl_recurrences.specs.declared.SampleDue.{SampleDue}
 
--- Rust `clamp`. Below the low end it is the low end, above the high end the high end, else the number itself.
+-- Rust `clamp`, by comparisons: the nearer end for a number outside of min .. max, any other number as it is, a NaN too
 unfoldable pub clamp : Float → Float → Float → Float
 clamp value min max = if value <ᶠ min then min else if value >ᶠ max then max else value
 
@@ -25,15 +25,15 @@ buildings-line x1 f1 x2 f2 u =
     let intercept = f2 ⊖ slope ⊗ x2 in
     intercept ⊕ slope ⊗ x-lim
 
--- Rust `hysteresis`; CDL.Reals.Hysteresis. Off turns on if u > high; on stays on if u >= low.
+-- Rust `hysteresis`; CDL.Reals.Hysteresis: turned on by a u above u-high, and kept on by one not below u-low
 unfoldable pub hysteresis : Float → Float → Float → Bool → Bool
 hysteresis u u-low u-high previous = (not previous && (u >ᶠ u-high)) || (previous && (u ≥ᶠ u-low))
 
--- Rust `less_hysteretic`; CDL.Reals.Less with h. Off turns on if u1 < u2; on stays on if u1 < u2 + h.
+-- Rust `less_hysteretic`; CDL.Reals.Less with h: turned on by a u1 below u2, and kept on by one below u2 + h
 unfoldable pub less-hysteretic : Float → Float → Float → Bool → Bool
 less-hysteretic u1 u2 h previous = (not previous && (u1 <ᶠ u2)) || (previous && (u1 <ᶠ u2 ⊕ h))
 
--- Rust `greater_hysteretic`; CDL.Reals.Greater with h. Off turns on if u1 > u2; on stays on if u1 > u2 - h.
+-- Rust `greater_hysteretic`; CDL.Reals.Greater with h: turned on by a u1 above u2, and kept on by one above u2 - h
 unfoldable pub greater-hysteretic : Float → Float → Float → Bool → Bool
 greater-hysteretic u1 u2 h previous = (not previous && (u1 >ᶠ u2)) || (previous && (u1 >ᶠ u2 ⊖ h))
 

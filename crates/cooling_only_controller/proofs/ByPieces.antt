@@ -1,4 +1,4 @@
--- The pieces of ControllerPieces.antt make up `controller-output`. Assumes nothing.
+-- The pieces of ControllerPieces.antt, put together, are `controller-output`. Assumes nothing.
 use mathlib.Core.Path.{_≡_, refl}
 use mathlib.Core.Bool.{Bool}
 use lib.Ieee.{Float}

@@ -1,5 +1,6 @@
 -- The pieces in which the code of this crate computes `controller-output` of Controller.antt. A piece has the name of its function in
--- src/lib.rt. That they make up the whole is proved in proofs/ByPieces.antt; a reader of `controller-output` need not open this file.
+-- src/lib.rt, and is a formula of its own. A law in proofs/ByPieces.antt says that together they are `controller-output`;
+-- a reader of that need not open this file.
 use mathlib.Core.Bool.{Bool}
 use lib.IntN.{ℤ}
 use lib.Ieee.{Float}

@@ -1,4 +1,4 @@
--- The pieces of AirflowPieces.antt make up the stages of Airflow.antt. Assumes nothing.
+-- How the pieces of AirflowPieces.antt stand to the stages of Airflow.antt. Assumes nothing.
 use mathlib.Core.Path.{_≡_, refl}
 use mathlib.Core.Bool.{Bool}
 use lib.Ieee.{Float}

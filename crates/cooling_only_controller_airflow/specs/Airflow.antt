@@ -47,7 +47,7 @@ SAMPLE_PERIOD = decimal 120 1
 abbrev pub fresh-damper : DamperState
 fresh-damper = record { «supply_warm» = false; integrator = zero; «previous_time» = Absent; «previous_fan» = false }
 
--- Rust `DamperState::output`. The command is formed with the old integrator; on a fan's rising edge the new one is 0.01 - proportional.
+-- Rust `DamperState::output`. The command has the integrator from before this tick, which a fan that comes on resets.
 unfoldable pub damper : DamperState → Float → DamperInput → DamperStep
 damper s t input =
     let supply-warm = greater-hysteretic (input .«supply_air_temperature») (input .«zone_temperature»)

@@ -1,5 +1,7 @@
 -- The pieces in which the code of this crate computes the stages of Airflow.antt. A piece has the name of its function in src/lib.rt.
--- That they make up the stages is proved in proofs/ByPieces.antt and with the code; a reader of the stages need not open this file.
+-- It is what the stage says of some of its fields, or a formula of its own,
+-- which a law (proofs/ByPieces.antt) or a proof of the code ties to it.
+-- A reader of the stages need not open this file.
 use mathlib.Core.Bool.{Bool, _&&_}
 use lib.IntN.{ℤ, pos}
 use lib.Ieee.{Float}

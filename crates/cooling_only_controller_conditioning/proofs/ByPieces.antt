@@ -1,4 +1,4 @@
--- The pieces of ConditioningPieces.antt make up the stages of Conditioning.antt. Assumes nothing.
+-- How the pieces of ConditioningPieces.antt stand to the stages of Conditioning.antt. Assumes nothing.
 use mathlib.Core.Path.{_≡_, refl}
 use mathlib.Core.Bool.{Bool, not, _&&_}
 use lib.Ieee.{Float}

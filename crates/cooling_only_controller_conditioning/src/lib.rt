@@ -319,7 +319,7 @@ struct LoopStep {
     output: f64,
 }
 
-// One loop, enabled while below < above. The PI runs on every tick, enabled or not, on `above` less `below`; its integrator is reset when the loop becomes enabled.
+// One loop, enabled by below < above, with a dead band of 0.25. The PI runs on every tick, enabled or not, on `above` less `below`; its integrator is reset when the loop becomes enabled.
 // The signal is the PI's output, cut to 0 once that has been near zero for a while and the loop is not enabled.
 fn control_loop(
     t: f64,

@@ -48,7 +48,7 @@ negative (fin s m e) = s
 abbrev pub both-zero : Float → Float → Bool
 both-zero x y = eq x zero && eq y zero
 
--- Rust's `x.max(y)`. Of a NaN and a number the number is taken, of two NaNs NaN. Of two zeros it is -0.0 only if both are.
+-- Rust's `x.max(y)`. A NaN gives way to a number, and is given only for two. Of two zeros it is -0.0 only if both are.
 unfoldable pub max : Float → Float → Float
 max x y =
     if isNan x then y

@@ -8,17 +8,18 @@ use Rattle.air_box.specs.AirBox.{delay-on-init}
 use Rattle.air_box.specs.declared.Tick.{Tick}
 use Rattle.air_box.specs.declared.Start.{Start}
 use Rattle.air_box.specs.Demand2.{controller-step-of}
-use Rattle.nights.specs.Nights.{NightStep}
-use Rattle.nights.specs.Demand3.{HighFanOff, ExactAlarm, ExactGiven, EveryNightExactly}
+use Rattle.nights.specs.Nights.{NightStep, HighFanOff}
+use Rattle.nights.specs.Demand3.{H, ExactAlarm, ExactGiven, EveryNightExactly}
 use Rattle.nights.proofs.Histories.{in-order, last-in-order}
 use Rattle.nights.proofs.AcceptedTicks.{AllAccepted}
 use Rattle.nights.proofs.Grown.{grown, along}
+use Rattle.nights.proofs.FlowHighRule.{limits-in-order}
 use Rattle.nights.proofs.Conditions.{held-for-law}
 use Rattle.nights.proofs.SensorAlarm.{high-fan-off, high-fan-off-means, delay-reached, alarm-is-three, alarm-three-or-none}
 
 exact-alarm : (start : Start) (h : List Tick) (k : Tick) → AllAccepted (k ∷ h) → ExactAlarm start (in-order h) k (controller-step-of (grown start h) k .output .«airflow_sensor_alarm»)
 exact-alarm start h k a =
-    let held = held-for-law high-fan-off HighFanOff high-fan-off-means 600 (delay-on-init start) (decimal 600 1) delay-reached h k a in
+    let held = held-for-law (high-fan-off H) (HighFanOff H) (high-fan-off-means H limits-in-order) 600 (delay-on-init start) (decimal 600 1) delay-reached h k a in
     record { three = Iff·trans (alarm-is-three start h k) (Iff·and Iff·rfl held); else-none = alarm-three-or-none start h k }
 
 pub every-night-exactly : (start : Start) → EveryNightExactly start

@@ -7,6 +7,7 @@ use native.Mathlib.Omega.{arith}
 use mathlib.Core.Bool.{Bool, true, false, not, _&&_}
 use lib.IntN.{ℤ, pos, negsuc}
 use lib.Dec.{T, eqb→eq}
+use lib.Ieee.{Float}
 use lib.Ieee.Fits.{and-i, and-l, and-r}
 use Rattle.f64_helpers.specs.F64.{decimal, if_then_else_}
 use Rattle.f64_helpers.specs.Integers.{_==ᶻ_}
@@ -20,23 +21,23 @@ use Rattle.air_box.specs.AirBox.{delay-on-init, accepted-tick}
 use Rattle.air_box.specs.Demand2.{controller-step-of}
 use Rattle.air_box.specs.declared.Tick.{Tick}
 use Rattle.air_box.specs.declared.Start.{Start}
-use Rattle.nights.specs.Nights.{fan, mode}
-use Rattle.nights.specs.Demand3.{H, HighFanOff}
+use Rattle.nights.specs.Nights.{fan, mode, HighFanOff}
+use Rattle.nights.specs.Demand3.{H}
 use Rattle.nights.proofs.Histories.{in-order}
 use Rattle.nights.proofs.AcceptedTicks.{decimal-whole}
 use Rattle.nights.proofs.Grown.{grown, grown-start}
-use Rattle.nights.proofs.FlowHighRule.{high-after, high-law, limits-in-order}
+use Rattle.nights.proofs.FlowHighRule.{high-after, InOrder, high-law}
 use Rattle.nights.proofs.Conditions.{samples}
 
 -- ---- the delay's input: flow is high with the fan off
-abbrev pub high-fan-off : List Tick → Bool
-high-fan-off [] = false
-high-fan-off (k ∷ h) = high-after H (k ∷ h) && not (fan k)
+abbrev pub high-fan-off : Float → List Tick → Bool
+high-fan-off limit [] = false
+high-fan-off limit (k ∷ h) = high-after limit (k ∷ h) && not (fan k)
 
-pub high-fan-off-means : (h : List Tick) (k : Tick) → T (high-fan-off (k ∷ h)) ↔ HighFanOff (in-order h) k
-high-fan-off-means h k =
-    let high = high-after H (k ∷ h) in
-    let law = high-law H limits-in-order (k ∷ h) in (
+pub high-fan-off-means : (limit : Float) → InOrder limit → (h : List Tick) (k : Tick) → T (high-fan-off limit (k ∷ h)) ↔ HighFanOff limit (in-order h) k
+high-fan-off-means limit limits h k =
+    let high = high-after limit (k ∷ h) in
+    let law = high-law limit limits (k ∷ h) in (
       λ u. (law .0 (and-l high (not (fan k)) u), and-r high (not (fan k)) u),
       λ f. and-i high (not (fan k)) (law .1 (f .0)) (f .1),
     )
@@ -46,7 +47,7 @@ delay-reached = whole-reached (decimal 600 1) 600 (decimal-whole 600 (omega arit
 
 -- ---- the memories
 abbrev pub sensor-delay-after : Start → List Tick → TrueDelayState
-sensor-delay-after start h = true-delay-after (decimal 600 1) (delay-on-init start) (samples high-fan-off h)
+sensor-delay-after start h = true-delay-after (decimal 600 1) (delay-on-init start) (samples (high-fan-off H) h)
 
 flow-high-kept : (start : Start) (h : List Tick) → grown start h .state .alarms .«flow_high» ≡ high-after H h
 unfolding accepted-tick controller-output alarms

@@ -29,7 +29,7 @@ fan-off-kept true true true d f g t = absurd t
 fan-off-kept true false c d f g t = absurd (f tt)
 fan-off-kept false b c d f g t = absurd t
 
-carried : (g h : List Tick) → Related NoWeaker g h → T (high-fan-off g) → T (high-fan-off h)
+carried : (g h : List Tick) → Related NoWeaker g h → T (high-fan-off H g) → T (high-fan-off H h)
 carried [] [] r t = t
 carried [] (k ∷ h) r t = absurd r
 carried (j ∷ g) [] r t = absurd r
@@ -46,7 +46,7 @@ three-kept start g h (j ∷ ss) (k ∷ rs) a b r p q w = (
       let f = alarm-is-three start g (j .ticked) .0 e in
       alarm-is-three start h (k .ticked) .1 (
         sym (w .0 .modes) ∙ f .0,
-        held-kept high-fan-off NoWeaker same-seconds carried (decimal 600 1) 600 delay-reached (delay-on-init start) (j .ticked ∷ g) (k .ticked ∷ h) (p .0, a) (q .0, b) (w .0, r) (f .1),
+        held-kept (high-fan-off H) NoWeaker same-seconds carried (decimal 600 1) 600 delay-reached (delay-on-init start) (j .ticked ∷ g) (k .ticked ∷ h) (p .0, a) (q .0, b) (w .0, r) (f .1),
       )),
   three-kept start (j .ticked ∷ g) (k .ticked ∷ h) ss rs (p .0, a) (q .0, b) (w .0, r) (p .2) (q .2) (w .1),
 )

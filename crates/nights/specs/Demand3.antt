@@ -4,7 +4,7 @@ use mathlib.Core.Path.{_≡_}
 use mathlib.Core.Logic.{_↔_, _⊎_, inl, inr}
 use mathlib.Core.List.{List, [], _∷_, _++_}
 use Prim.Native.Nat.{ℕ}
-use mathlib.Core.Bool.{false, not}
+use mathlib.Core.Bool.{false}
 use lib.IntN.{ℤ, pos}
 use lib.Dec.{T}
 use lib.Ieee.{Float, eq}
@@ -29,6 +29,7 @@ use Rattle.nights.specs.Nights.{
   mode,
   FlowHigh,
   flow-high-stepped,
+  HighFanOff,
   HeldFor,
 }
 
@@ -44,14 +45,10 @@ FlowHighRule = (ks : List Tick) → T (flow-high-stepped H false ks) ↔ FlowHig
 
 -- ---- every night, exactly
 
--- At the accepted tick k, before which those of `earlier` were accepted: flow is high with the fan off.
-abbrev pub HighFanOff : List Tick → Tick → Type 0
-HighFanOff earlier k = FlowHigh H (earlier ++ (k ∷ [])) × T (not (fan k))
-
 -- The alarm at k is 3 exactly if the mode there is 1 and flow has been high with the fan off at every accepted tick
 -- from one at least 600 seconds back, or, in a plain start, from the very first, up to k. Else it is 0.
 pub record ExactAlarm (start : Start) (earlier : List Tick) (k : Tick) (alarm : ℤ) : Type 0 where
-  pub three : (alarm ≡ pos 3) ↔ ((mode k ≡ pos 1) × HeldFor HighFanOff 600 (delay-on-init start) (earlier ++ (k ∷ [])) k)
+  pub three : (alarm ≡ pos 3) ↔ ((mode k ≡ pos 1) × HeldFor (HighFanOff H) 600 (delay-on-init start) (earlier ++ (k ∷ [])) k)
   pub else-none : (alarm ≡ pos 3) ⊎ (alarm ≡ pos 0)
 
 -- What is given for the tick k is right: outputs only if no question gets a "no" after the last accepted time,

@@ -102,6 +102,10 @@ abbrev pub flow-high-stepped : Float → Bool → List Tick → Bool
 flow-high-stepped limit high [] = high
 flow-high-stepped limit high (k ∷ ks) = flow-high-stepped limit (greater-hysteretic (flow k) limit (decimal 1 100) high) ks
 
+-- At the accepted tick k, before which those of `earlier` were accepted: flow is high with the fan off.
+abbrev pub HighFanOff : Float → List Tick → Tick → Type 0
+HighFanOff limit earlier k = FlowHigh limit (earlier ++ (k ∷ [])) × T (not (fan k))
+
 -- ---- a condition that has held for a time
 -- `Holds earlier k` says that it holds at the accepted tick k, before which those of `earlier` were accepted.
 
