@@ -12,4 +12,4 @@ pub thresholds-hold : ThresholdsHold
 unfolding ofBits round add sub mul div lt le eq isNan toSigned ofInt floor ceil max min
     clamp hysteresis less-hysteretic greater-hysteretic true-delay-output buildings-round-six initial-sample-time sample-index sample-due sampler-output
     sampler-sample true-delay loop-pi control-loops zone-states system-requests
-thresholds-hold = (refl, refl, (refl, refl, (refl, refl, (refl, refl, (refl, refl, (refl, refl, (refl, refl, (refl, refl, (refl, refl, (refl, refl, (refl, refl, (refl, refl, (refl, refl, (refl, refl, tt))))))))))))))
+thresholds-hold = (refl, refl, (refl, refl, (refl, refl, (refl, refl, (refl, refl, (refl, refl, (refl, refl, (refl, refl, (refl, refl, (refl, refl, (refl, refl, (refl, refl, (refl, refl, (refl, refl, (refl, refl, (refl, refl, tt))))))))))))))))

@@ -5,12 +5,13 @@ use mathlib.Core.Path.{_≡_}
 use mathlib.Core.List.{List, [], _∷_}
 use mathlib.Core.Bool.{Bool, true, false}
 use Prim.Native.Nat.{ℕ}
-use lib.Ieee.{Float, binary64, ofBits}
+use lib.Ieee.{Float, binary64, ofBits, eq}
 use Rattle.f64_helpers.specs.F64.{decimal, zero}
 use Rattle.cdl_recurrences.specs.declared.OptionalTime.the-variants.{Absent}
 use Rattle.cooling_only_controller_timing.specs.Timing.{fresh-sampler, fresh-true-delay}
 use Rattle.cooling_only_controller_conditioning.specs.Conditioning.{control-loops, zone-states}
 use Rattle.cooling_only_controller_conditioning.specs.declared.ControlLoopsState.{ControlLoopsState}
+use Rattle.cooling_only_controller_conditioning.specs.declared.ControlLoopsStep.{ControlLoopsStep}
 use Rattle.cooling_only_controller_conditioning.specs.declared.LoopPiState.{LoopPiState}
 use Rattle.cooling_only_controller_airflow.specs.Airflow.{system-requests}
 use Rattle.cooling_only_controller_airflow.specs.declared.SystemRequestInput.{SystemRequestInput}
@@ -29,8 +30,8 @@ abbrev heating-tiebreak : Bool → Float → Bool
 heating-tiebreak was x =
     zone-states (record { «heating_signal» = false; «cooling_signal» = false; «heating_tiebreak» = was }) x zero .state .«heating_tiebreak»
 
--- the two loops with no error and the integrator x, so that the output is x
-abbrev loops-at : Bool → Float → ControlLoopsState
+-- a first tick of the two loops, not enabled, with no error and the integrator x, so that the raw output is x
+abbrev loops-at : Bool → Float → ControlLoopsStep
 loops-at was x =
     let pi : LoopPiState = record { integrator = x; «previous_time» = Absent; «previous_trigger» = false } in
     let loops : ControlLoopsState = record {
@@ -43,7 +44,7 @@ loops-at was x =
       «cooling_delay» = fresh-true-delay;
       «heating_delay» = fresh-true-delay;
     } in
-    control-loops loops zero (decimal 297 1) (decimal 297 1) (decimal 297 1) .state
+    control-loops loops zero (decimal 297 1) (decimal 297 1) (decimal 297 1)
 
 -- system requests on a first tick, of the cooling loop x and the damper x
 abbrev requests-at : Bool → Float → SystemRequestsState
@@ -92,10 +93,13 @@ edges =
     ∷ record { test = heating-tiebreak false; yes = 4576918229304087676; no = 4576918229304087675 }
     ∷ record { test = heating-tiebreak true; yes = 13800290266158863483; no = 13800290266158863484 }
     -- 0.01, below which a loop is near zero, and 0.01 + 0.008, below which it stays so
-    ∷ record { test = λ x. loops-at false x .«cooling_near_zero»; yes = 4576918229304087674; no = 4576918229304087675 }
-    ∷ record { test = λ x. loops-at true x .«cooling_near_zero»; yes = 4580845368179154747; no = 4580845368179154748 }
-    ∷ record { test = λ x. loops-at false x .«heating_near_zero»; yes = 4576918229304087674; no = 4576918229304087675 }
-    ∷ record { test = λ x. loops-at true x .«heating_near_zero»; yes = 4580845368179154747; no = 4580845368179154748 }
+    ∷ record { test = λ x. loops-at false x .state .«cooling_near_zero»; yes = 4576918229304087674; no = 4576918229304087675 }
+    ∷ record { test = λ x. loops-at true x .state .«cooling_near_zero»; yes = 4580845368179154747; no = 4580845368179154748 }
+    ∷ record { test = λ x. loops-at false x .state .«heating_near_zero»; yes = 4576918229304087674; no = 4576918229304087675 }
+    ∷ record { test = λ x. loops-at true x .state .«heating_near_zero»; yes = 4580845368179154747; no = 4580845368179154748 }
+    -- the same edge: a loop that stays near zero is cut to 0, and one that does not is not
+    ∷ record { test = λ x. eq (loops-at true x .output .cooling) zero; yes = 4580845368179154747; no = 4580845368179154748 }
+    ∷ record { test = λ x. eq (loops-at true x .output .heating) zero; yes = 4580845368179154747; no = 4580845368179154748 }
     -- 0.95, above which the loop and the damper are high, and 0.94, from which on they stay so
     ∷ record { test = λ x. requests-at false x .«cooling_high»; yes = 4606732058837280359; no = 4606732058837280358 }
     ∷ record { test = λ x. requests-at true x .«cooling_high»; yes = 4606641986844732948; no = 4606641986844732947 }
