@@ -1,2 +1,3 @@
 pub mod CdlRecurrences
+pub mod CdlPieces
 pub mod DeadBand

@@ -1,9 +1,7 @@
 // The recurrences of cdl_recurrences.rs that the controller calls, in that file's order. Where the Rust takes slices and `[0]` is read, one value goes in and one comes out.
 ghost use mathlib.Core.Path.{_≡_};
-ghost use mathlib.Core.Bool.{true, false};
-ghost use Rattle.f64_helpers.specs.F64.{zero};
-ghost use Rattle.f64_helpers.specs.Helpers as Helpers;
 ghost use Rattle.cdl_recurrences.specs.CdlRecurrences as Cdl;
+ghost use Rattle.cdl_recurrences.specs.CdlPieces as CdlPieces;
 
 // `Option<f64>`, of a time: absent, or the time.
 pub enum OptionalTime {
@@ -102,7 +100,7 @@ pub fn true_delay_output(
     }
 }
 
-// The delay with its input true, at a tick that is not the first. The delay is 0 or more.
+// The delay with its input true, at a tick that is not the first.
 fn true_delay_running(
     t: f64,
     delay: f64,
@@ -111,8 +109,7 @@ fn true_delay_running(
     held: bool,
     timer: f64,
 ) -> TrueDelayOutput
-    requires { ⌜ Helpers.max delay zero ≡ delay ⌝ }
-    ensures { λ r. ⌜ r ≡ Cdl.true-delay-output t true delay false (OptionalTime.At «previous_time») «prev_u» held timer ⌝ }
+    ensures { λ r. ⌜ r ≡ CdlPieces.true-delay-running t delay «previous_time» «prev_u» held timer ⌝ }
 {
     if held {
         TrueDelayOutput {

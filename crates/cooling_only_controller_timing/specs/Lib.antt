@@ -1,3 +1,4 @@
 pub mod Timing
+pub mod TimingPieces
 pub mod History
 pub mod SamplerHistory

@@ -1,8 +1,8 @@
 // The timing blocks of cooling_only_controller_timing.rs: sampler, unit delay, true delay, timer. A state goes in by value and comes back beside the output.
 ghost use mathlib.Core.Path.{_≡_};
-ghost use mathlib.Core.Bool.{false};
 ghost use Rattle.f64_helpers.specs.F64.{if_then_else_};
 ghost use Rattle.cooling_only_controller_timing.specs.Timing as Timing;
+ghost use Rattle.cooling_only_controller_timing.specs.TimingPieces as TimingPieces;
 use cdl_recurrences::OptionalTime;
 
 // Periodic sampler.
@@ -136,10 +136,9 @@ impl UnitDelayState {
         }
     }
 
-    // The state after the first tick.
+    // The state after the first tick, which is taken as such whatever the flag says.
     fn first_sample(self, t: f64, input: f64, period: f64) -> UnitDelayState
-        requires { ⌜ self .initialized ≡ false ⌝ }
-        ensures { λ r. ⌜ r ≡ Timing.unit-delay-sample self t input period .state ⌝ }
+        ensures { λ r. ⌜ r ≡ TimingPieces.unit-delay-first-sample self t input period ⌝ }
     {
         let t0 = cdl_recurrences::initial_sample_time(t, period);
         let index = cdl_recurrences::sample_index(t, t0, period);

@@ -1,20 +1,18 @@
 -- What `floor` and `ceil` mean, for every value that an f64 holds: the result is exactly the whole number that the definition names (nothing is rounded), and that number is the right one.
--- Beside that, each of document 01's sentences on the helpers, and that the larger of a number and 0 stays when it is taken once more. Assumes nothing.
+-- Beside that, each of document 01's sentences on the helpers. Assumes nothing.
 use mathlib.Core.Path.{_≡_, refl, sym, ap, _∙_, subst}
 use Prim.Native.Nat.{ℕ, suc, _+_, _-_, _*_, _/_, _^_, _≤_, _<_}
 use native.Mathlib.Nat.{add-zero, div-one, div-le-self, div-eq-of-lt, div-lt-iff-lt-mul, div-mul-le-self, lt-div-mul-add, mul-le-mul-left}
 use native.Mathlib.Omega.{arith}
-use mathlib.Core.Bool.{Bool, true, false, not, cond, _&&_, _||_, and-false}
+use mathlib.Core.Bool.{Bool, true, false, not, cond, _&&_, _||_}
 use lib.IntN.{ℤ, pos, negsuc}
 use lib.Dec.{T}
 use lib.Pow.{pow-pos}
 use lib.Ieee.{Float, nan, inf, fin, binary64, up, down, round, fits, lt, eq, isNan}
 use lib.Ieee.Exact.{HasValue}
 use lib.Ieee.Back.{round-whole}
-use Rattle.f64_helpers.specs.F64.{zero}
 use Rattle.f64_helpers.specs.Helpers.{floor, ceil, abs, quotient-down, quotient-up, negative, max, min}
 use Rattle.f64_helpers.proofs.Values.{exact, fits-frac}
-use Rattle.f64_helpers.proofs.LargerOfTwo.{max-by-tests}
 
 -- ---- the two quotients are the whole numbers next to a / b: q * b ≤ a < (q + 1) * b, and q * b < a + b with a ≤ q * b
 pub quotient-down-is : (a b : ℕ) → 0 < b → (quotient-down a b * b ≤ a) × (a < quotient-down a b * b + b)
@@ -118,15 +116,3 @@ pub min-zeros : (s : Bool) → min (fin s 0 (pos 0)) (fin (not s) 0 (pos 0)) ≡
 unfolding min isNan lt eq
 min-zeros true = refl
 min-zeros false = refl
-
--- ---- the larger of x and 0 is 0 or more: taken once more, it stays
-pub max-zero-again : (x : Float) → max (max x zero) zero ≡ max x zero
-unfolding max isNan lt eq
-max-zero-again x = go (isNan x) (lt x zero) (eq x zero) refl refl refl
-  where
-    go : (n l a : Bool) → isNan x ≡ n → lt x zero ≡ l → eq x zero ≡ a
-        → max (cond n zero (cond l zero (cond (a && true) (fin (negative x && false) 0 (pos 0)) x))) zero ≡ cond n zero (cond l zero (cond (a && true) (fin (negative x && false) 0 (pos 0)) x))
-    go true l a N L A = refl
-    go false true a N L A = refl
-    go false false true N L A = ap (λ (s : Bool). max (fin s 0 (pos 0)) zero) (and-false (negative x)) ∙ ap (λ (s : Bool). fin s 0 (pos 0)) (sym (and-false (negative x)))
-    go false false false N L A = sym (max-by-tests x zero false false false true N L A refl)

@@ -18,7 +18,7 @@ returns c =
     let at-t0 = at-index .before in
     let index = toZ-ofZ {w = w64} {z = at-index .sample-index .result} (record { sfits = at-index .sample-index .ok }) in
     let offset = rw (at-float .nearest-i64-to-f64 .ensures, index) at (at-offset .abs .ensures) in
-    rw (at-t0 .before .pre, index, ← at-t0 .initial-sample-time .ensures, ← at-index .sample-index .ensures, ← offset, c .if1 .taken)
+    rw (index, ← at-t0 .initial-sample-time .ensures, ← at-index .sample-index .ensures, ← offset, c .if1 .taken)
 
 returns-2 : tie.Need-returns-2
 unfolding unit-delay-sample ofBits round
@@ -29,7 +29,7 @@ returns-2 c =
     let at-t0 = at-index .before in
     let index = toZ-ofZ {w = w64} {z = at-index .sample-index .result} (record { sfits = at-index .sample-index .ok }) in
     let offset = rw (at-float .nearest-i64-to-f64 .ensures, index) at (at-offset .abs .ensures) in
-    rw (at-t0 .before .pre, index, ← at-t0 .initial-sample-time .ensures, ← at-index .sample-index .ensures, ← offset, c .if1 .left)
+    rw (index, ← at-t0 .initial-sample-time .ensures, ← at-index .sample-index .ensures, ← offset, c .if1 .left)
 
 pub first-sample-spec : {M : Type 1} → statement M
 first-sample-spec =
