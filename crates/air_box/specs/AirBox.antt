@@ -126,12 +126,12 @@ tick box k = decided (questions (box .«last_time») k) box k
 abbrev pub given-for : AirBox → Tick → ControllerOutput ⊎ ℕ
 given-for box k = outputs-or-number (tick box k .answer)
 
--- ---- document 01, 'Desk code'
+-- ---- document 01, 'Desk code', in the order of document 02, N7: the leak comes first
 
 unfoldable pub desk-code : ℤ → ℤ → ℤ → ℕ
 desk-code low-airflow airflow-sensor leaking-damper =
-    if low-airflow ==ᶻ 2 then 12
+    if leaking-damper ==ᶻ 4 then 34
+    else if low-airflow ==ᶻ 2 then 12
     else if low-airflow ==ᶻ 3 then 13
     else if airflow-sensor ==ᶻ 3 then 23
-    else if leaking-damper ==ᶻ 4 then 34
     else 0

@@ -196,18 +196,18 @@ fn temperatures_within(input: ControllerInput) -> bool
         & within(input.supply_air_temperature, 150.0, 450.0)
 }
 
-// One number from the three alarms, by the first rule that fits.
+// One number from the three alarms, by the first rule that fits. The leak comes first: the fitter is wanted at the damper, also where the airflow is low.
 pub fn desk_code(low_airflow: i64, airflow_sensor: i64, leaking_damper: i64) -> u8
     ensures { λ r. ⌜ r ≡ AirBoxes.desk-code «low_airflow» «airflow_sensor» «leaking_damper» ⌝ }
 {
-    if low_airflow == 2 {
+    if leaking_damper == 4 {
+        34
+    } else if low_airflow == 2 {
         12
     } else if low_airflow == 3 {
         13
     } else if airflow_sensor == 3 {
         23
-    } else if leaking_damper == 4 {
-        34
     } else {
         0
     }

@@ -27,6 +27,11 @@ pub held-is-output : (s : TrueDelayState) (t : Float) (u : Bool) (delay-time : F
 unfolding true-delay
 held-is-output s t u delay-time delay-on-init = refl
 
+-- with a false input it gives false, whatever it holds
+pub false-gives-false : (s : TrueDelayState) (t delay-time : Float) (delay-on-init : Bool) → true-delay s t false delay-time delay-on-init .output ≡ false
+unfolding true-delay true-delay-output
+false-gives-false s t delay-time delay-on-init = refl
+
 -- ---- a delay, and the larger of it and 0, are reached by the same whole numbers
 number-if-reached : (x : Float) (d : ℕ) → Reach x d → T (not (isNan x))
 number-if-reached x d reach =

@@ -1,5 +1,6 @@
--- The machine compares the bits of an i64 with those of a literal: that is `==ᶻ`. Assumes nothing.
-use mathlib.Core.Path.{_≡_, refl, sym, _∙_}
+-- What `==ᶻ` means, and that it is what the machine does when it compares the bits of an i64 with those of a literal. Assumes nothing.
+use mathlib.Core.Path.{_≡_, refl, sym, ap, _∙_, subst}
+use mathlib.Core.Logic.{_↔_}
 use Prim.Native.Nat.{ℕ, suc, _-_, _^_, _<_}
 use native.Mathlib.Omega.{arith}
 use mathlib.Core.Bool.{Bool, true, false}
@@ -9,6 +10,10 @@ use lib.Ieee.Fits.{eq→eqb}
 use mir.Syntax.{w64}
 use mir.Val.{SFits, ofZ}
 use Rattle.f64_helpers.specs.Integers.{_==ᶻ_}
+
+pub equals-means : (z : ℤ) (k : ℕ) → T (z ==ᶻ k) ↔ (z ≡ pos k)
+equals-means (pos n) k = (λ t. ap pos (eqb→eq n k t), λ e. subst (λ (z : ℤ). T (z ==ᶻ k)) (sym e) (eq→eqb {a = k} {b = k} refl))
+equals-means (negsuc n) k = (λ t. absurd t, λ e. subst (λ (z : ℤ). T (z ==ᶻ k)) (sym e) (eq→eqb {a = k} {b = k} refl))
 
 far : (n k : ℕ) → n < 9223372036854775808 → k < 9223372036854775808 → 18446744073709551616 - suc n ≡ k → ⊥
 far n k p q e = omega arith

@@ -11,6 +11,7 @@ use lib.Ieee.{Float}
 use lib.Ieee.Fits.{and-i, and-l, and-r}
 use Rattle.f64_helpers.specs.F64.{decimal, if_then_else_}
 use Rattle.f64_helpers.specs.Integers.{_==ᶻ_}
+use Rattle.f64_helpers.proofs.Integers.{equals-means}
 use Rattle.f64_helpers.proofs.WholeSeconds.{Reach}
 use Rattle.cooling_only_controller_timing.specs.History.{true-delay-after}
 use Rattle.cooling_only_controller_timing.specs.declared.TrueDelayState.{TrueDelayState}
@@ -75,18 +76,14 @@ three-or-none : (b : Bool) → ((if b then pos 3 else pos 0) ≡ pos 3) ⊎ ((if
 three-or-none true = inl refl
 three-or-none false = inr refl
 
-equals-one : (m : ℤ) → T (m ==ᶻ 1) ↔ (m ≡ pos 1)
-equals-one (pos n) = (λ t. ap pos (eqb→eq n 1 t), λ e. subst (λ (m : ℤ). T (m ==ᶻ 1)) (sym e) tt)
-equals-one (negsuc n) = (λ t. absurd t, λ e. subst (λ (m : ℤ). T (m ==ᶻ 1)) (sym e) tt)
-
 -- it is 3 exactly if the mode is 1 and the delay's output is true; else it is 0
 pub alarm-is-three : (start : Start) (h : List Tick) (k : Tick) → (alarm-at start h k ≡ pos 3) ↔ ((mode k ≡ pos 1) × T (sensor-delay-after start (k ∷ h) .held))
 alarm-is-three start h k =
     let held = sensor-delay-after start (k ∷ h) .held in
     let level = three-if (held && (mode k ==ᶻ 1)) in
     rw (alarm-by-memories start h k) (
-      λ e. (equals-one (mode k) .0 (and-r held (mode k ==ᶻ 1) (level .0 e)), and-l held (mode k ==ᶻ 1) (level .0 e)),
-      λ p. level .1 (and-i held (mode k ==ᶻ 1) (p .1) (equals-one (mode k) .1 (p .0))),
+      λ e. (equals-means (mode k) 1 .0 (and-r held (mode k ==ᶻ 1) (level .0 e)), and-l held (mode k ==ᶻ 1) (level .0 e)),
+      λ p. level .1 (and-i held (mode k ==ᶻ 1) (p .1) (equals-means (mode k) 1 .1 (p .0))),
     )
 
 pub alarm-three-or-none : (start : Start) (h : List Tick) (k : Tick) → (alarm-at start h k ≡ pos 3) ⊎ (alarm-at start h k ≡ pos 0)

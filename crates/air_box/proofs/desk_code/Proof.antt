@@ -9,56 +9,56 @@ returns : tie.Need-returns
 unfolding desk-code
 returns c =
     let entry = c .before in
-    rw (is-literal (entry .args .low-airflow) 2 (entry .fits .low-airflow) (lit< tt) (c .if1 .taken))
+    rw (is-literal (entry .args .leaking-damper) 4 (entry .fits .leaking-damper) (lit< tt) (c .if1 .taken))
 
 returns-2 : tie.Need-returns-2
 unfolding desk-code
 returns-2 c =
-    let at-first = c .before in
-    let entry = at-first .before in
+    let at-leak = c .before in
+    let entry = at-leak .before in
     rw (
-      is-not-literal (entry .args .low-airflow) 2 (entry .fits .low-airflow) (lit< tt) (at-first .if1 .left),
-      is-literal (entry .args .low-airflow) 3 (entry .fits .low-airflow) (lit< tt) (c .if2 .taken),
+      is-not-literal (entry .args .leaking-damper) 4 (entry .fits .leaking-damper) (lit< tt) (at-leak .if1 .left),
+      is-literal (entry .args .low-airflow) 2 (entry .fits .low-airflow) (lit< tt) (c .if2 .taken),
     )
 
 returns-3 : tie.Need-returns-3
 unfolding desk-code
 returns-3 c =
-    let at-second = c .before in
-    let at-first = at-second .before in
-    let entry = at-first .before in
+    let at-low-two = c .before in
+    let at-leak = at-low-two .before in
+    let entry = at-leak .before in
     rw (
-      is-not-literal (entry .args .low-airflow) 2 (entry .fits .low-airflow) (lit< tt) (at-first .if1 .left),
-      is-not-literal (entry .args .low-airflow) 3 (entry .fits .low-airflow) (lit< tt) (at-second .if2 .left),
-      is-literal (entry .args .airflow-sensor) 3 (entry .fits .airflow-sensor) (lit< tt) (c .if3 .taken),
+      is-not-literal (entry .args .leaking-damper) 4 (entry .fits .leaking-damper) (lit< tt) (at-leak .if1 .left),
+      is-not-literal (entry .args .low-airflow) 2 (entry .fits .low-airflow) (lit< tt) (at-low-two .if2 .left),
+      is-literal (entry .args .low-airflow) 3 (entry .fits .low-airflow) (lit< tt) (c .if3 .taken),
     )
 
 returns-4 : tie.Need-returns-4
 unfolding desk-code
 returns-4 c =
-    let at-third = c .before in
-    let at-second = at-third .before in
-    let at-first = at-second .before in
-    let entry = at-first .before in
+    let at-low-three = c .before in
+    let at-low-two = at-low-three .before in
+    let at-leak = at-low-two .before in
+    let entry = at-leak .before in
     rw (
-      is-not-literal (entry .args .low-airflow) 2 (entry .fits .low-airflow) (lit< tt) (at-first .if1 .left),
-      is-not-literal (entry .args .low-airflow) 3 (entry .fits .low-airflow) (lit< tt) (at-second .if2 .left),
-      is-not-literal (entry .args .airflow-sensor) 3 (entry .fits .airflow-sensor) (lit< tt) (at-third .if3 .left),
-      is-literal (entry .args .leaking-damper) 4 (entry .fits .leaking-damper) (lit< tt) (c .if4 .taken),
+      is-not-literal (entry .args .leaking-damper) 4 (entry .fits .leaking-damper) (lit< tt) (at-leak .if1 .left),
+      is-not-literal (entry .args .low-airflow) 2 (entry .fits .low-airflow) (lit< tt) (at-low-two .if2 .left),
+      is-not-literal (entry .args .low-airflow) 3 (entry .fits .low-airflow) (lit< tt) (at-low-three .if3 .left),
+      is-literal (entry .args .airflow-sensor) 3 (entry .fits .airflow-sensor) (lit< tt) (c .if4 .taken),
     )
 
 returns-5 : tie.Need-returns-5
 unfolding desk-code
 returns-5 c =
-    let at-third = c .before in
-    let at-second = at-third .before in
-    let at-first = at-second .before in
-    let entry = at-first .before in
+    let at-low-three = c .before in
+    let at-low-two = at-low-three .before in
+    let at-leak = at-low-two .before in
+    let entry = at-leak .before in
     rw (
-      is-not-literal (entry .args .low-airflow) 2 (entry .fits .low-airflow) (lit< tt) (at-first .if1 .left),
-      is-not-literal (entry .args .low-airflow) 3 (entry .fits .low-airflow) (lit< tt) (at-second .if2 .left),
-      is-not-literal (entry .args .airflow-sensor) 3 (entry .fits .airflow-sensor) (lit< tt) (at-third .if3 .left),
-      is-not-literal (entry .args .leaking-damper) 4 (entry .fits .leaking-damper) (lit< tt) (c .if4 .left),
+      is-not-literal (entry .args .leaking-damper) 4 (entry .fits .leaking-damper) (lit< tt) (at-leak .if1 .left),
+      is-not-literal (entry .args .low-airflow) 2 (entry .fits .low-airflow) (lit< tt) (at-low-two .if2 .left),
+      is-not-literal (entry .args .low-airflow) 3 (entry .fits .low-airflow) (lit< tt) (at-low-three .if3 .left),
+      is-not-literal (entry .args .airflow-sensor) 3 (entry .fits .airflow-sensor) (lit< tt) (c .if4 .left),
     )
 
 pub desk-code-spec : {M : Type 1} → statement M

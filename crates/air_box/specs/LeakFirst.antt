@@ -1,0 +1,117 @@
+-- Document 02, N7: the leak comes first in the desk code. Which codes move by that, and which alarms can stand together.
+-- All but the last claim are over every box, whatever it holds, and every tick that it accepts; they need no history.
+-- The method `AirBox::tick` is proved to return `tick`, by which `given-for` is said, and `desk_code` to return `desk-code`.
+use mathlib.Core.Path.{_≡_}
+use mathlib.Core.Logic.{_↔_, _⊎_, _≢_, inl}
+use mathlib.Core.List.{List, [], _∷_}
+use Prim.Native.Nat.{ℕ}
+use lib.IntN.{pos}
+use Rattle.f64_helpers.specs.F64.{if_then_else_}
+use Rattle.f64_helpers.specs.Integers.{_==ᶻ_}
+use Rattle.cooling_only_controller.specs.declared.ControllerOutput.{ControllerOutput}
+use Rattle.cooling_only_controller_airflow.specs.declared.AlarmOutput.{AlarmOutput}
+use Rattle.air_box.specs.AirBox.{fresh-box, given-for, desk-code}
+use Rattle.air_box.specs.declared.Tick.{Tick}
+use Rattle.air_box.specs.declared.AirBox.{AirBox}
+use Rattle.air_box.specs.declared.Start.the-variants.{Plain}
+
+-- ---- the alarms of a tick and their code
+
+-- the three alarms among the ten outputs
+abbrev pub alarms-of : ControllerOutput → AlarmOutput
+alarms-of output =
+    record {
+      «low_airflow» = output .«low_airflow_alarm»;
+      «airflow_sensor» = output .«airflow_sensor_alarm»;
+      «leaking_damper» = output .«leaking_damper_alarm»;
+    }
+
+-- the box accepts the tick, and these are the alarms that it gives for it
+abbrev pub Shows : AirBox → Tick → AlarmOutput → Type 0
+Shows box k a = (output : ControllerOutput) × (given-for box k ≡ inl output) × (alarms-of output ≡ a)
+
+-- their desk code
+abbrev pub code : AlarmOutput → ℕ
+code a = desk-code (a .«low_airflow») (a .«airflow_sensor») (a .«leaking_damper»)
+
+-- what it was by document 01's order, which N7 replaces: low airflow, the sensor, the leak
+abbrev pub old-code : AlarmOutput → ℕ
+old-code a =
+    if a .«low_airflow» ==ᶻ 2 then 12
+    else if a .«low_airflow» ==ᶻ 3 then 13
+    else if a .«airflow_sensor» ==ᶻ 3 then 23
+    else if a .«leaking_damper» ==ᶻ 4 then 34
+    else 0
+
+-- ---- the list of changes
+
+-- low airflow is 2 or 3
+abbrev pub Low : AlarmOutput → Type 0
+Low a = (a .«low_airflow» ≡ pos 2) ⊎ (a .«low_airflow» ≡ pos 3)
+
+-- The code is another than it was exactly where leak is 4 and low airflow is 2 or 3.
+-- There it was 12 or 13, and is 34. No other code moves.
+pub record ListOfChanges (a : AlarmOutput) : Type 0 where
+  pub changed : (code a ≢ old-code a) ↔ ((a .«leaking_damper» ≡ pos 4) × Low a)
+  pub from-12 : a .«leaking_damper» ≡ pos 4 → a .«low_airflow» ≡ pos 2 → (old-code a ≡ 12) × (code a ≡ 34)
+  pub from-13 : a .«leaking_damper» ≡ pos 4 → a .«low_airflow» ≡ pos 3 → (old-code a ≡ 13) × (code a ≡ 34)
+  pub no-other : ¬ ((a .«leaking_damper» ≡ pos 4) × Low a) → code a ≡ old-code a
+
+-- ---- the sensor rule overlaps neither of the others
+
+pub record SensorAlone (a : AlarmOutput) : Type 0 where
+  pub without-leak : a .«airflow_sensor» ≡ pos 3 → a .«leaking_damper» ≢ pos 4
+  pub without-low : a .«airflow_sensor» ≡ pos 3 → ¬ Low a
+
+-- ---- which alarms can stand together
+
+-- low airflow, airflow sensor, leaking damper
+abbrev pub alarms : ℕ → ℕ → ℕ → AlarmOutput
+alarms low sensor leak = record { «low_airflow» = pos low; «airflow_sensor» = pos sensor; «leaking_damper» = pos leak }
+
+-- the old code, the code, and the alarms that stand
+pub record Line : Type 0 where
+  pub was : ℕ
+  pub is : ℕ
+  pub standing : AlarmOutput
+
+abbrev pub line-of : AlarmOutput → Line
+line-of a = record { was = old-code a; is = code a; standing = a }
+
+infix 3 _to_for_
+abbrev pub _to_for_ : ℕ → ℕ → AlarmOutput → Line
+was to is for a = record { was = was; is = is; standing = a }
+
+abbrev pub together : List Line
+together =
+    (0 to 0 for alarms 0 0 0)
+    ∷ (12 to 12 for alarms 2 0 0)
+    ∷ (13 to 13 for alarms 3 0 0)
+    ∷ (23 to 23 for alarms 0 3 0)
+    ∷ (34 to 34 for alarms 0 0 4)
+    ∷ (12 to 34 for alarms 2 0 4)
+    ∷ (13 to 34 for alarms 3 0 4)
+    ∷ []
+
+abbrev pub Among : Line → List Line → Type 0
+Among l [] = ⊥
+Among l (m ∷ ms) = (l ≡ m) ⊎ Among l ms
+
+-- What a code tells of the three alarms: 0, 12, 13 and 23 all, and 34 all but low airflow, which may stand beside the leak.
+pub record Tells (a : AlarmOutput) : Type 0 where
+  pub code-0 : code a ≡ 0 → a ≡ alarms 0 0 0
+  pub code-12 : code a ≡ 12 → a ≡ alarms 2 0 0
+  pub code-13 : code a ≡ 13 → a ≡ alarms 3 0 0
+  pub code-23 : code a ≡ 23 → a ≡ alarms 0 3 0
+  pub code-34 : code a ≡ 34 → (a .«airflow_sensor» ≡ pos 0) × (a .«leaking_damper» ≡ pos 4)
+
+-- ---- N7
+pub record LeakFirst : Type 0 where
+  pub list-of-changes : (box : AirBox) (k : Tick) (a : AlarmOutput) → Shows box k a → ListOfChanges a
+  pub sensor-alone : (box : AirBox) (k : Tick) (a : AlarmOutput) → Shows box k a → SensorAlone a
+  -- The list is complete, and each of its lines is shown: a plain start's first tick is enough.
+  pub complete : (box : AirBox) (k : Tick) (a : AlarmOutput) → Shows box k a → Among (line-of a) together
+  pub each-shown : (l : Line) → Among l together → (k : Tick) × (a : AlarmOutput) × Shows (fresh-box Plain) k a × (line-of a ≡ l)
+  pub tells : (box : AirBox) (k : Tick) (a : AlarmOutput) → Shows box k a → Tells a
+  -- Of any three numbers, also those that no tick shows: with leak 4 the code moves from 23 too.
+  pub any-three : (a : AlarmOutput) → (code a ≢ old-code a) ↔ ((a .«leaking_damper» ≡ pos 4) × (Low a ⊎ (a .«airflow_sensor» ≡ pos 3)))
