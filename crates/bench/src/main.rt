@@ -1,4 +1,4 @@
-// Document 01's bench cases that are run and not proved: the first ticks 130, 190 and 250, every refusal, and the quiet start. What it prints is held to the file stdout.
+// Bench cases that are run and not proved: document 01's first ticks 130, 190 and 250, every refusal and the quiet start, and document 02's night of a leak with low flow. What it prints is held to the file stdout.
 use air_box::AirBox;
 use air_box::AirBoxStep;
 use air_box::Answer;
@@ -7,8 +7,16 @@ use air_box::Tick;
 use cooling_only_controller::ControllerInput;
 use libc::STDOUT_FILENO;
 
-// A tick in mode 1 with calm readings, but for the six that the cases vary.
-fn tick_of(t: f64, zone: f64, co2: f64, flow: f64, airflow_override: i64, fan: bool) -> Tick {
+// A tick in mode 1 with calm readings, but for the seven that the cases vary.
+fn tick_of(
+    t: f64,
+    zone: f64,
+    co2: f64,
+    flow: f64,
+    airflow_override: i64,
+    damper_override: i64,
+    fan: bool,
+) -> Tick {
     Tick {
         t,
         input: ControllerInput {
@@ -24,14 +32,14 @@ fn tick_of(t: f64, zone: f64, co2: f64, flow: f64, airflow_override: i64, fan: b
             supply_air_temperature: 287.0,
             discharge_airflow: flow,
             airflow_override_index: airflow_override,
-            damper_override_index: 0,
+            damper_override_index: damper_override,
             supply_fan_status: fan,
         },
     }
 }
 
 fn at(t: f64) -> Tick {
-    tick_of(t, 296.0, 600.0, 0.5, 0, true)
+    tick_of(t, 296.0, 600.0, 0.5, 0, 0, true)
 }
 
 // 0 for an accepted tick, else the number of the refusal.
@@ -94,26 +102,40 @@ fn refusals_of_time() {
 
 fn refusals_of_readings() {
     let fresh = AirBox::fresh(Start::Plain);
-    let cold = tick_of(0.0, 150.0, 600.0, 0.5, 0, true);
+    let cold = tick_of(0.0, 150.0, 600.0, 0.5, 0, 0, true);
     print(b"zone 150.0 gives", number(fresh.tick(cold)));
-    let hot = tick_of(0.0, 450.0, 600.0, 0.5, 0, true);
+    let hot = tick_of(0.0, 450.0, 600.0, 0.5, 0, 0, true);
     print(b"zone 450.0 gives", number(fresh.tick(hot)));
-    let colder = tick_of(0.0, 149.9, 600.0, 0.5, 0, true);
+    let colder = tick_of(0.0, 149.9, 600.0, 0.5, 0, 0, true);
     print(b"zone 149.9 gives", number(fresh.tick(colder)));
-    let stale = tick_of(0.0, 296.0, 10000.5, 0.5, 0, true);
+    let stale = tick_of(0.0, 296.0, 10000.5, 0.5, 0, 0, true);
     print(b"CO2 10000.5 gives", number(fresh.tick(stale)));
-    let backward = tick_of(0.0, 296.0, 600.0, -10.5, 0, true);
+    let backward = tick_of(0.0, 296.0, 600.0, -10.5, 0, 0, true);
     print(b"flow -10.5 gives", number(fresh.tick(backward)));
-    let nothing = tick_of(0.5, 0.0 / 0.0, 600.0, 0.5, 0, true);
+    let nothing = tick_of(0.5, 0.0 / 0.0, 600.0, 0.5, 0, 0, true);
     print(b"t 0.5 with zone NaN gives", number(fresh.tick(nothing)));
 }
 
-// The low airflow alarm of an accepted tick.
-fn low_airflow(step: AirBoxStep) -> i64 {
+struct Alarms {
+    low_airflow: i64,
+    airflow_sensor: i64,
+    leaking_damper: i64,
+}
+
+// The alarms of an accepted tick. A refused one has none, for which -1 stands.
+fn alarms_of(step: AirBoxStep) -> Alarms {
     let answer = step.answer;
     match answer {
-        Answer::Accepted(output) => output.low_airflow_alarm,
-        Answer::Refused(_) => 0,
+        Answer::Accepted(output) => Alarms {
+            low_airflow: output.low_airflow_alarm,
+            airflow_sensor: output.airflow_sensor_alarm,
+            leaking_damper: output.leaking_damper_alarm,
+        },
+        Answer::Refused(_) => Alarms {
+            low_airflow: -1,
+            airflow_sensor: -1,
+            leaking_damper: -1,
+        },
     }
 }
 
@@ -125,14 +147,14 @@ fn quiet_start() {
     for minute in 0..37u64 {
         let seconds = minute * 60;
         let t = std::num::nearest_u64_to_f64(seconds);
-        let step = b.tick(tick_of(t, 296.0, 600.0, 0.0, 2, true));
+        let step = b.tick(tick_of(t, 296.0, 600.0, 0.0, 2, 0, true));
         let state = step.state;
         b = state;
         let armed = b.state.alarms.fan_armed.held;
         if armed & !armed_before {
             print(b"quiet start armed at", seconds);
         }
-        let alarm = low_airflow(step) != 0;
+        let alarm = alarms_of(step).low_airflow != 0;
         if alarm & !alarm_before {
             print(b"quiet start low alarm at", seconds);
         }
@@ -141,9 +163,50 @@ fn quiet_start() {
     }
 }
 
+// Airflow override 3 and the damper shut by its override.
+fn shut(t: f64, flow: f64, fan: bool) -> Tick {
+    tick_of(t, 296.0, 600.0, flow, 3, 1, fan)
+}
+
+fn print_code(label: &[u8], low_airflow: i64, airflow_sensor: i64, leaking_damper: i64) {
+    print(
+        label,
+        air_box::desk_code(low_airflow, airflow_sensor, leaking_damper) as u64,
+    );
+}
+
+// Flow 0.3 past the shut damper, from the minute after a first tick with the fan off. Wherever an alarm comes or goes: the code that the low alarm and the leak alarm would have alone, and the code.
+fn leak_and_low_flow() {
+    let first = shut(0.0, 0.0, false);
+    let mut b = AirBox::fresh(Start::Plain).tick(first).state;
+    let mut low_before = 0;
+    let mut leak_before = 0;
+    for minute in 1..41u64 {
+        let seconds = minute * 60;
+        let step = b.tick(shut(std::num::nearest_u64_to_f64(seconds), 0.3, true));
+        let state = step.state;
+        b = state;
+        let now = alarms_of(step);
+        if (now.low_airflow != low_before) | (now.leaking_damper != leak_before) {
+            print(b"leak and low flow at", seconds);
+            print_code(b"code of the low alarm alone", now.low_airflow, 0, 0);
+            print_code(b"code of the leak alarm alone", 0, 0, now.leaking_damper);
+            print_code(
+                b"code",
+                now.low_airflow,
+                now.airflow_sensor,
+                now.leaking_damper,
+            );
+        }
+        low_before = now.low_airflow;
+        leak_before = now.leaking_damper;
+    }
+}
+
 fn main() {
     first_ticks();
     refusals_of_time();
     refusals_of_readings();
     quiet_start();
+    leak_and_low_flow();
 }
