@@ -8,10 +8,10 @@
 
 static const char *meaning(int code) {
     switch (code) {
+    case AIR_BOX_DESK_LEAKING_DAMPER: return "leaking damper: flow with the damper closed";
     case AIR_BOX_DESK_LOW_BELOW_HALF: return "low airflow, below half of the setpoint";
     case AIR_BOX_DESK_LOW_BELOW_SEVENTY: return "low airflow, below 70 percent of the setpoint";
     case AIR_BOX_DESK_AIRFLOW_SENSOR: return "airflow sensor: flow with the fan off";
-    case AIR_BOX_DESK_LEAKING_DAMPER: return "leaking damper: flow with the damper closed";
     default: return "no alarm";
     }
 }

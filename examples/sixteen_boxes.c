@@ -22,10 +22,10 @@ typedef struct Unit {
 
 static const char *meaning(int code) {
     switch (code) {
+    case AIR_BOX_DESK_LEAKING_DAMPER: return "flow with the damper closed: look at the damper";
     case AIR_BOX_DESK_LOW_BELOW_HALF: return "low airflow, below half of the setpoint";
     case AIR_BOX_DESK_LOW_BELOW_SEVENTY: return "low airflow, below 70 percent of the setpoint";
     case AIR_BOX_DESK_AIRFLOW_SENSOR: return "flow with the fan off: look at the airflow sensor";
-    case AIR_BOX_DESK_LEAKING_DAMPER: return "flow with the damper closed: look at the damper";
     default: return "no alarm";
     }
 }

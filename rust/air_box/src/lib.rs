@@ -149,7 +149,7 @@ pub struct Output {
 }
 
 impl Output {
-    /// The desk code of the three alarms.
+    /// The desk code of the three alarms. 34 leaves open whether `low_airflow_alarm` stands too; every other code tells all three.
     pub fn desk_code(&self) -> u8 {
         desk_code(
             self.low_airflow_alarm,
@@ -269,7 +269,7 @@ impl fmt::Debug for AirBox {
     }
 }
 
-/// The desk code of three alarms, by the first rule that fits: 12 and 13 for low airflow 2 and 3, 23 for sensor 3, 34 for leak 4, else 0.
+/// The desk code of three alarms, by the first rule that fits: 34 for leak 4, 12 and 13 for low airflow 2 and 3, 23 for sensor 3, else 0.
 pub fn desk_code(low_airflow: i64, airflow_sensor: i64, leaking_damper: i64) -> u8 {
     unsafe { air_box_desk_code(low_airflow, airflow_sensor, leaking_damper) }
 }

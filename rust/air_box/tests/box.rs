@@ -67,14 +67,16 @@ fn quiet_start_waits_with_the_low_alarm() {
 fn desk_codes() {
     let alarms = [
         (2, 3, 4),
-        (3, 3, 4),
-        (0, 3, 4),
         (0, 0, 4),
+        (2, 3, 0),
+        (3, 3, 0),
+        (0, 3, 0),
         (0, 0, 0),
+        (4, 2, 3),
         (7, -1, 12),
     ];
     let codes = alarms.map(|(low, sensor, leak)| desk_code(low, sensor, leak));
-    assert_eq!(codes, [12, 13, 23, 34, 0, 0]);
+    assert_eq!(codes, [34, 34, 12, 13, 23, 0, 0, 0]);
 }
 
 #[test]
@@ -83,6 +85,17 @@ fn an_output_has_its_desk_code() {
     tick.input.discharge_airflow = 0.0;
     let output = AirBox::plain().tick(&tick).expect("accepted");
     assert_eq!((output.low_airflow_alarm, output.desk_code()), (2, 12));
+}
+
+#[test]
+fn the_leak_comes_first() {
+    let mut tick = at(0.0);
+    tick.input.airflow_override_index = 3;
+    tick.input.damper_override_index = 1;
+    tick.input.discharge_airflow = 0.3;
+    let output = AirBox::plain().tick(&tick).expect("accepted");
+    let alarms = (output.low_airflow_alarm, output.leaking_damper_alarm);
+    assert_eq!((alarms, output.desk_code()), ((3, 4), 34));
 }
 
 #[test]
