@@ -194,9 +194,9 @@ AIR_BOX_ASSERT(offsetof(AirBoxOutput, low_airflow_alarm) == 56);
 AIR_BOX_ASSERT(offsetof(AirBoxOutput, airflow_sensor_alarm) == 64);
 AIR_BOX_ASSERT(offsetof(AirBoxOutput, leaking_damper_alarm) == 72);
 
-/* The desk code: the three alarms in one number, by the first of these that fits. The leak comes first: where air passes a closed damper, that is
-   what has to be mended, also where the airflow is low. So 34 leaves open whether low_airflow_alarm stands too. Every other code tells all three
-   alarms of a tick: the sensor's stands only with the fan off, the two others only with the fan on. */
+/* The desk code: the three alarms in one number, by the first of these that fits. The order is by where the fitter has to go, not by
+   level: where air passes a closed damper, that is what has to be mended, also where the airflow is low. So 34 leaves open whether low_airflow_alarm
+   stands too. Every other code tells all three alarms of a tick: the sensor's stands only with the fan off, the two others only with the fan on. */
 #define AIR_BOX_DESK_LEAKING_DAMPER 34      /* leaking_damper_alarm is 4 */
 #define AIR_BOX_DESK_LOW_BELOW_HALF 12      /* low_airflow_alarm is 2 */
 #define AIR_BOX_DESK_LOW_BELOW_SEVENTY 13   /* it is 3 */

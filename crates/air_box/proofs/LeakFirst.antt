@@ -1,23 +1,20 @@
 -- N7. The alarms of an accepted tick are those of the alarms stage, whose laws leave seven lines; each claim about a tick is then a claim about those seven. Assumes nothing.
 use mathlib.Core.Path.{_≡_, refl, sym, ap, _∙_, subst}
-use mathlib.Core.Logic.{_↔_, _⊎_, _≢_, inl, inr, ⊎-elim, ⊎-map}
-use mathlib.Core.List.{List, [], _∷_}
+use mathlib.Core.Logic.{_⊎_, _≢_, inl, inr}
 use Prim.Native.Nat.{ℕ}
-use native.Mathlib.Omega.{arith}
-use mathlib.Core.Bool.{Bool, true, false, not, cond}
-use lib.IntN.{ℤ, pos}
-use lib.Dec.{T, eqb, eqb→eq}
-use lib.Ieee.{Float, ofInt, round, neg, add, sub, mul, div, lt, le, eq, isNan, toSigned}
+use mathlib.Core.Bool.{Bool, true, false, not}
+use lib.IntN.{pos}
+use lib.Dec.{T, T-not, not-T, eqb, eqb→eq}
+use lib.Ieee.{Float, round, neg, sub, mul, lt, le, eq, isNan}
+use lib.Ieee.Bits.{is-true, is-false}
 use lib.Ieee.Fits.{eq→eqb}
 use Rattle.f64_helpers.specs.F64.{decimal, zero}
-use Rattle.f64_helpers.specs.Helpers.{floor, ceil, abs, max, min}
+use Rattle.f64_helpers.specs.Helpers.{max}
 use Rattle.f64_helpers.specs.Integers.{_==ᶻ_}
 use Rattle.f64_helpers.proofs.Integers.{equals-means}
-use Rattle.cdl_recurrences.specs.CdlRecurrences.{buildings-line, clamp, hysteresis, less-hysteretic, greater-hysteretic, true-delay-output, buildings-round-six, initial-sample-time, sample-index, sample-due, sampler-output}
-use Rattle.cooling_only_controller_timing.specs.Timing.{sampler-sample, unit-delay-sample, true-delay, timer-elapsed}
-use Rattle.cooling_only_controller_conditioning.specs.Conditioning.{latch, time-suppression, loop-pi, control-loops, setpoints, active-airflow, zone-states}
-use Rattle.cooling_only_controller_conditioning.specs.ConditioningPieces.{suppression-window}
-use Rattle.cooling_only_controller_airflow.specs.Airflow.{damper, system-requests, alarms as alarms-stage}
+use Rattle.cdl_recurrences.specs.CdlRecurrences.{hysteresis, less-hysteretic, greater-hysteretic, true-delay-output}
+use Rattle.cooling_only_controller_timing.specs.Timing.{true-delay}
+use Rattle.cooling_only_controller_airflow.specs.Airflow.{damper, alarms}
 use Rattle.cooling_only_controller_airflow.specs.declared.AlarmInput.{AlarmInput}
 use Rattle.cooling_only_controller_airflow.specs.declared.AlarmOutput.{AlarmOutput}
 use Rattle.cooling_only_controller_airflow.specs.declared.AlarmsState.{AlarmsState}
@@ -26,27 +23,27 @@ use Rattle.cooling_only_controller.specs.Controller.{controller-output}
 use Rattle.cooling_only_controller.specs.declared.ControllerOutput.{ControllerOutput}
 use Rattle.air_box.specs.AirBox.{questions, accepted-tick, tick, fresh-box, given-for, delay-on-init, desk-code}
 use Rattle.air_box.specs.Demand2.{controller-step-of}
-use Rattle.air_box.specs.LeakFirst.{alarms-of, Shows, code, old-code, Low, ListOfChanges, SensorAlone, alarms, Line, line-of, together, Among, Tells, LeakFirst}
+use Rattle.air_box.specs.LeakFirst.{alarms-of, Shows, code, old-code, Low, ListOfChanges, SensorAlone, levels, Line, line-of, together, Among, Tells, OfAnyThree, LeakFirst}
 use Rattle.air_box.specs.declared.Tick.{Tick}
 use Rattle.air_box.specs.declared.AirBox.{AirBox}
 use Rattle.air_box.specs.declared.Start.the-variants.{Plain}
 use Rattle.air_box.proofs.Demands.{demand-1, demand-2}
 
 -- ---- the alarms of an accepted tick are those of the stage
-stage : (box : AirBox) (k : Tick) → (input : AlarmInput) × (alarms-of (controller-step-of box k .output) ≡ alarms-stage (box .state .alarms) (k .t) input (delay-on-init (box .start)) .output)
+stage : (box : AirBox) (k : Tick) → (input : AlarmInput) × (alarms-of (controller-step-of box k .output) ≡ alarms (box .state .alarms) (k .t) input (delay-on-init (box .start)) .output)
 unfolding controller-output
 stage box k = (_, refl)
 
 same-output : (given : ControllerOutput ⊎ ℕ) (x y : ControllerOutput) → given ≡ inl x → given ≡ inl y → x ≡ y
 same-output given x y e f = cc
 
-shown-by-stage : (box : AirBox) (k : Tick) (a : AlarmOutput) → Shows box k a → alarms-stage (box .state .alarms) (k .t) (stage box k .0) (delay-on-init (box .start)) .output ≡ a
+shown-by-stage : (box : AirBox) (k : Tick) (a : AlarmOutput) → Shows box k a → alarms (box .state .alarms) (k .t) (stage box k .0) (delay-on-init (box .start)) .output ≡ a
 shown-by-stage box k a (output, given, same) =
     let all = demand-1 .outputs-if-all-yes box k .0 (output, given) in
     sym (stage box k .1) ∙ ap alarms-of (same-output (given-for box k) _ output (demand-2 box k all .outputs) given) ∙ same
 
 -- ---- the list is complete
-three-of : (a : AlarmOutput) (low sensor leak : ℕ) → a .«low_airflow» ≡ pos low → a .«airflow_sensor» ≡ pos sensor → a .«leaking_damper» ≡ pos leak → line-of a ≡ line-of (alarms low sensor leak)
+three-of : (a : AlarmOutput) (low sensor leak : ℕ) → a .«low_airflow» ≡ pos low → a .«airflow_sensor» ≡ pos sensor → a .«leaking_damper» ≡ pos leak → line-of a ≡ line-of (levels low sensor leak)
 three-of a low sensor leak e f g = ap line-of (rw (sym e, sym f, sym g))
 
 with-fan-on : (a : AlarmOutput) → a .«airflow_sensor» ≡ pos 0
@@ -68,10 +65,10 @@ unfolding desk-code
 with-fan-off a low leak (inr sensor) = inl (three-of a 0 0 0 low sensor leak)
 with-fan-off a low leak (inl sensor) = inr (inr (inr (inl (three-of a 0 3 0 low sensor leak))))
 
-of-stage : (s : AlarmsState) (t : Float) (input : AlarmInput) (delay-on-init : Bool) → Among (line-of (alarms-stage s t input delay-on-init .output)) together
+of-stage : (s : AlarmsState) (t : Float) (input : AlarmInput) (delay-on-init : Bool) → Among (line-of (alarms s t input delay-on-init .output)) together
 of-stage s t input delay-on-init = by-fan (input .«supply_fan_status») refl
   where
-    by-fan : (fan : Bool) → input .«supply_fan_status» ≡ fan → Among (line-of (alarms-stage s t input delay-on-init .output)) together
+    by-fan : (fan : Bool) → input .«supply_fan_status» ≡ fan → Among (line-of (alarms s t input delay-on-init .output)) together
     by-fan true e = with-fan-on _ (sensor-with-fan-on s t input delay-on-init e) (low-levels s t input delay-on-init) (leak-levels s t input delay-on-init)
     by-fan false e = with-fan-off _ (low-with-fan-off s t input delay-on-init e) (leak-with-fan-off s t input delay-on-init e) (sensor-levels s t input delay-on-init)
 
@@ -79,7 +76,7 @@ complete : (box : AirBox) (k : Tick) (a : AlarmOutput) → Shows box k a → Amo
 complete box k a shows = subst (λ (x : AlarmOutput). Among (line-of x) together) (shown-by-stage box k a shows) (of-stage _ _ _ _)
 
 -- ---- what holds of the seven holds of every accepted tick
-by-lines : (P : AlarmOutput → Type 0) → P (alarms 0 0 0) → P (alarms 2 0 0) → P (alarms 3 0 0) → P (alarms 0 3 0) → P (alarms 0 0 4) → P (alarms 2 0 4) → P (alarms 3 0 4)
+by-lines : (P : AlarmOutput → Type 0) → P (levels 0 0 0) → P (levels 2 0 0) → P (levels 3 0 0) → P (levels 0 3 0) → P (levels 0 0 4) → P (levels 2 0 4) → P (levels 3 0 4)
     → (box : AirBox) (k : Tick) (a : AlarmOutput) → Shows box k a → P a
 by-lines P p000 p200 p300 p030 p004 p204 p304 box k a shows = go (complete box k a shows)
   where
@@ -98,11 +95,7 @@ by-lines P p000 p200 p300 p030 p004 p204 p304 box k a shows = go (complete box k
 
 -- ---- codes and levels that differ
 apart : (m n : ℕ) → T (not (eqb m n)) → m ≢ n
-apart m n d e = not-both (eqb m n) d (eq→eqb e)
-  where
-    not-both : (b : Bool) → T (not b) → T b → ⊥
-    not-both true d t = absurd d
-    not-both false d t = absurd t
+apart m n d e = T-not (eqb m n) d (eq→eqb e)
 
 levels-apart : (m n : ℕ) → T (not (eqb m n)) → pos m ≢ pos n
 levels-apart m n d e = apart m n d (eqb→eq m n (equals-means (pos m) n .1 e))
@@ -116,10 +109,10 @@ kept a same none = record {
   no-other = λ n. same;
 }
 
-without-a-leak : (low sensor : ℕ) → ¬ ((pos 0 ≡ pos 4) × Low (alarms low sensor 0))
+without-a-leak : (low sensor : ℕ) → ¬ ((pos 0 ≡ pos 4) × Low (levels low sensor 0))
 without-a-leak low sensor both = levels-apart 0 4 tt (both .0)
 
-without-low : (sensor leak : ℕ) → ¬ Low (alarms 0 sensor leak)
+without-low : (sensor leak : ℕ) → ¬ Low (levels 0 sensor leak)
 without-low sensor leak (inl e) = levels-apart 0 2 tt e
 without-low sensor leak (inr e) = levels-apart 0 3 tt e
 
@@ -127,11 +120,11 @@ list-of-changes : (box : AirBox) (k : Tick) (a : AlarmOutput) → Shows box k a 
 unfolding desk-code
 list-of-changes =
     by-lines ListOfChanges
-    (kept (alarms 0 0 0) refl (without-a-leak 0 0))
-    (kept (alarms 2 0 0) refl (without-a-leak 2 0))
-    (kept (alarms 3 0 0) refl (without-a-leak 3 0))
-    (kept (alarms 0 3 0) refl (without-a-leak 0 3))
-    (kept (alarms 0 0 4) refl (λ both. without-low 0 4 (both .1)))
+    (kept (levels 0 0 0) refl (without-a-leak 0 0))
+    (kept (levels 2 0 0) refl (without-a-leak 2 0))
+    (kept (levels 3 0 0) refl (without-a-leak 3 0))
+    (kept (levels 0 3 0) refl (without-a-leak 0 3))
+    (kept (levels 0 0 4) refl (λ both. without-low 0 4 (both .1)))
     record {
       changed = (λ other. (refl, inl refl), λ both. apart 34 12 tt);
       from-12 = λ leak low. (refl, refl);
@@ -146,7 +139,7 @@ list-of-changes =
     }
 
 -- ---- the sensor rule overlaps neither
-without-sensor : (low leak : ℕ) → SensorAlone (alarms low 0 leak)
+without-sensor : (low leak : ℕ) → SensorAlone (levels low 0 leak)
 without-sensor low leak = record {
   without-leak = λ sensor. absurd (levels-apart 0 3 tt sensor);
   without-low = λ sensor. absurd (levels-apart 0 3 tt sensor);
@@ -162,7 +155,7 @@ sensor-alone =
 not-its : {P : Type 0} (c d : ℕ) → T (not (eqb c d)) → c ≡ d → P
 not-its c d differ e = absurd (apart c d differ e)
 
-tells-leak : (low : ℕ) → Tells (alarms low 0 4)
+tells-leak : (low : ℕ) → Tells (levels low 0 4)
 unfolding desk-code
 tells-leak low = record {
   code-0 = not-its 34 0 tt;
@@ -182,32 +175,16 @@ tells =
     record { code-0 = not-its 23 0 tt; code-12 = not-its 23 12 tt; code-13 = not-its 23 13 tt; code-23 = λ e. refl; code-34 = not-its 23 34 tt }
     (tells-leak 0) (tells-leak 2) (tells-leak 3)
 
--- ---- of any three numbers: by which of the four tests they pass
-module _ (two three sensor leak : Bool) where
-  abbrev code-by : ℕ
-  code-by = cond leak 34 (cond two 12 (cond three 13 (cond sensor 23 0)))
-
-  abbrev old-code-by : ℕ
-  old-code-by = cond two 12 (cond three 13 (cond sensor 23 (cond leak 34 0)))
-
-by-tests : (two three sensor leak : Bool) → (code-by two three sensor leak ≢ old-code-by two three sensor leak) ↔ (T leak × ((T two ⊎ T three) ⊎ T sensor))
-by-tests true three sensor true = (λ other. (tt, inl (inl tt)), λ b. apart 34 12 tt)
-by-tests false true sensor true = (λ other. (tt, inl (inr tt)), λ b. apart 34 13 tt)
-by-tests false false true true = (λ other. (tt, inr tt), λ b. apart 34 23 tt)
-by-tests false false false true = (λ other. absurd (other refl), λ b. absurd (⊎-elim (λ l. ⊎-elim (λ x. x) (λ x. x) l) (λ x. x) (b .1)))
-by-tests two three sensor false = (λ other. absurd (other refl), λ b. absurd (b .0))
-
-any-three : (a : AlarmOutput) → (code a ≢ old-code a) ↔ ((a .«leaking_damper» ≡ pos 4) × (Low a ⊎ (a .«airflow_sensor» ≡ pos 3)))
+-- ---- of any three numbers, by the test that comes first
+any-three : (a : AlarmOutput) → OfAnyThree a
 unfolding desk-code
 any-three a =
-    let two = equals-means (a .«low_airflow») 2 in
-    let three = equals-means (a .«low_airflow») 3 in
-    let sensor = equals-means (a .«airflow_sensor») 3 in
+    let test = a .«leaking_damper» ==ᶻ 4 in
     let leak = equals-means (a .«leaking_damper») 4 in
-    let tests = by-tests (a .«low_airflow» ==ᶻ 2) (a .«low_airflow» ==ᶻ 3) (a .«airflow_sensor» ==ᶻ 3) (a .«leaking_damper» ==ᶻ 4) in (
-      λ other. let b = tests .0 other in (leak .0 (b .0), ⊎-map (⊎-map (two .0) (three .0)) (sensor .0) (b .1)),
-      λ b. tests .1 (leak .1 (b .0), ⊎-map (⊎-map (two .1) (three .1)) (sensor .1) (b .1)),
-    )
+    record {
+      leak-4 = λ e. rw (is-true test (leak .1 e));
+      other-leak = λ other. rw (is-false test (not-T test (λ t. other (leak .0 t))));
+    }
 
 -- ---- each line is shown, by the first tick of a plain start: flow 0.3, mode 1
 first-tick : ℕ → ℕ → Bool → Tick
@@ -240,19 +217,15 @@ seen : (k : Tick) (a : AlarmOutput) (l m : Line) → Shows (fresh-box Plain) k a
 seen k a l m shows e f = (k, a, shows, e ∙ sym f)
 
 each-shown : (l : Line) → Among l together → Seen l
-unfolding first-tick desk-code
-    round neg add sub mul div lt le eq isNan toSigned ofInt floor ceil abs max min
-    buildings-line clamp hysteresis less-hysteretic greater-hysteretic true-delay-output buildings-round-six initial-sample-time sample-index sample-due sampler-output
-    sampler-sample unit-delay-sample true-delay timer-elapsed
-    latch suppression-window time-suppression loop-pi control-loops setpoints active-airflow zone-states
-    damper system-requests alarms-stage controller-output questions accepted-tick tick
-each-shown l (inl e) = seen (first-tick 1 2 true) (alarms 0 0 0) l _ (_, refl, refl) refl e
-each-shown l (inr (inl e)) = seen (first-tick 2 2 true) (alarms 2 0 0) l _ (_, refl, refl) refl e
-each-shown l (inr (inr (inl e))) = seen (first-tick 3 2 true) (alarms 3 0 0) l _ (_, refl, refl) refl e
-each-shown l (inr (inr (inr (inl e)))) = seen (first-tick 0 0 false) (alarms 0 3 0) l _ (_, refl, refl) refl e
-each-shown l (inr (inr (inr (inr (inl e))))) = seen (first-tick 1 1 true) (alarms 0 0 4) l _ (_, refl, refl) refl e
-each-shown l (inr (inr (inr (inr (inr (inl e)))))) = seen (first-tick 2 1 true) (alarms 2 0 4) l _ (_, refl, refl) refl e
-each-shown l (inr (inr (inr (inr (inr (inr (inl e))))))) = seen (first-tick 3 1 true) (alarms 3 0 4) l _ (_, refl, refl) refl e
+unfolding first-tick desk-code questions accepted-tick tick controller-output damper alarms
+    true-delay true-delay-output hysteresis less-hysteretic greater-hysteretic max round neg sub mul lt le eq isNan
+each-shown l (inl e) = seen (first-tick 1 2 true) (levels 0 0 0) l _ (_, refl, refl) refl e
+each-shown l (inr (inl e)) = seen (first-tick 2 2 true) (levels 2 0 0) l _ (_, refl, refl) refl e
+each-shown l (inr (inr (inl e))) = seen (first-tick 3 2 true) (levels 3 0 0) l _ (_, refl, refl) refl e
+each-shown l (inr (inr (inr (inl e)))) = seen (first-tick 1 2 false) (levels 0 3 0) l _ (_, refl, refl) refl e
+each-shown l (inr (inr (inr (inr (inl e))))) = seen (first-tick 1 1 true) (levels 0 0 4) l _ (_, refl, refl) refl e
+each-shown l (inr (inr (inr (inr (inr (inl e)))))) = seen (first-tick 2 1 true) (levels 2 0 4) l _ (_, refl, refl) refl e
+each-shown l (inr (inr (inr (inr (inr (inr (inl e))))))) = seen (first-tick 3 1 true) (levels 3 0 4) l _ (_, refl, refl) refl e
 each-shown l (inr (inr (inr (inr (inr (inr (inr e))))))) = absurd e
 
 pub leak-first : LeakFirst

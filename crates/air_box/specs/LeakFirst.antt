@@ -1,6 +1,6 @@
 -- Document 02, N7: the leak comes first in the desk code. Which codes move by that, and which alarms can stand together.
--- All but the last claim are over every box, whatever it holds, and every tick that it accepts; they need no history.
--- The method `AirBox::tick` is proved to return `tick`, by which `given-for` is said, and `desk_code` to return `desk-code`.
+-- The claims about ticks are over every box, whatever it holds, and every tick that it accepts; they need no history.
+-- The method `AirBox::tick` is proved to return `tick`, of which `given-for` is made, and `desk_code` to return `desk-code`.
 use mathlib.Core.Path.{_≡_}
 use mathlib.Core.Logic.{_↔_, _⊎_, _≢_, inl}
 use mathlib.Core.List.{List, [], _∷_}
@@ -65,9 +65,9 @@ pub record SensorAlone (a : AlarmOutput) : Type 0 where
 
 -- ---- which alarms can stand together
 
--- low airflow, airflow sensor, leaking damper
-abbrev pub alarms : ℕ → ℕ → ℕ → AlarmOutput
-alarms low sensor leak = record { «low_airflow» = pos low; «airflow_sensor» = pos sensor; «leaking_damper» = pos leak }
+-- the levels of low airflow, airflow sensor and leaking damper
+abbrev pub levels : ℕ → ℕ → ℕ → AlarmOutput
+levels low sensor leak = record { «low_airflow» = pos low; «airflow_sensor» = pos sensor; «leaking_damper» = pos leak }
 
 -- the old code, the code, and the alarms that stand
 pub record Line : Type 0 where
@@ -84,13 +84,13 @@ was to is for a = record { was = was; is = is; standing = a }
 
 abbrev pub together : List Line
 together =
-    (0 to 0 for alarms 0 0 0)
-    ∷ (12 to 12 for alarms 2 0 0)
-    ∷ (13 to 13 for alarms 3 0 0)
-    ∷ (23 to 23 for alarms 0 3 0)
-    ∷ (34 to 34 for alarms 0 0 4)
-    ∷ (12 to 34 for alarms 2 0 4)
-    ∷ (13 to 34 for alarms 3 0 4)
+    (0 to 0 for levels 0 0 0)
+    ∷ (12 to 12 for levels 2 0 0)
+    ∷ (13 to 13 for levels 3 0 0)
+    ∷ (23 to 23 for levels 0 3 0)
+    ∷ (34 to 34 for levels 0 0 4)
+    ∷ (12 to 34 for levels 2 0 4)
+    ∷ (13 to 34 for levels 3 0 4)
     ∷ []
 
 abbrev pub Among : Line → List Line → Type 0
@@ -99,19 +99,26 @@ Among l (m ∷ ms) = (l ≡ m) ⊎ Among l ms
 
 -- What a code tells of the three alarms: 0, 12, 13 and 23 all, and 34 all but low airflow, which may stand beside the leak.
 pub record Tells (a : AlarmOutput) : Type 0 where
-  pub code-0 : code a ≡ 0 → a ≡ alarms 0 0 0
-  pub code-12 : code a ≡ 12 → a ≡ alarms 2 0 0
-  pub code-13 : code a ≡ 13 → a ≡ alarms 3 0 0
-  pub code-23 : code a ≡ 23 → a ≡ alarms 0 3 0
+  pub code-0 : code a ≡ 0 → a ≡ levels 0 0 0
+  pub code-12 : code a ≡ 12 → a ≡ levels 2 0 0
+  pub code-13 : code a ≡ 13 → a ≡ levels 3 0 0
+  pub code-23 : code a ≡ 23 → a ≡ levels 0 3 0
   pub code-34 : code a ≡ 34 → (a .«airflow_sensor» ≡ pos 0) × (a .«leaking_damper» ≡ pos 4)
+
+-- ---- any three numbers, also those that no tick shows
+
+-- With leak 4 the code is 34, and with any other leak what it was.
+pub record OfAnyThree (a : AlarmOutput) : Type 0 where
+  pub leak-4 : a .«leaking_damper» ≡ pos 4 → code a ≡ 34
+  pub other-leak : a .«leaking_damper» ≢ pos 4 → code a ≡ old-code a
 
 -- ---- N7
 pub record LeakFirst : Type 0 where
   pub list-of-changes : (box : AirBox) (k : Tick) (a : AlarmOutput) → Shows box k a → ListOfChanges a
   pub sensor-alone : (box : AirBox) (k : Tick) (a : AlarmOutput) → Shows box k a → SensorAlone a
-  -- The list is complete, and each of its lines is shown: a plain start's first tick is enough.
+  -- the list is complete
   pub complete : (box : AirBox) (k : Tick) (a : AlarmOutput) → Shows box k a → Among (line-of a) together
+  -- and each of its lines is shown: by a plain start's first tick
   pub each-shown : (l : Line) → Among l together → (k : Tick) × (a : AlarmOutput) × Shows (fresh-box Plain) k a × (line-of a ≡ l)
   pub tells : (box : AirBox) (k : Tick) (a : AlarmOutput) → Shows box k a → Tells a
-  -- Of any three numbers, also those that no tick shows: with leak 4 the code moves from 23 too.
-  pub any-three : (a : AlarmOutput) → (code a ≢ old-code a) ↔ ((a .«leaking_damper» ≡ pos 4) × (Low a ⊎ (a .«airflow_sensor» ≡ pos 3)))
+  pub any-three : (a : AlarmOutput) → OfAnyThree a

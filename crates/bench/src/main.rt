@@ -175,7 +175,7 @@ fn print_code(label: &[u8], low_airflow: i64, airflow_sensor: i64, leaking_dampe
     );
 }
 
-// Flow 0.3 past the shut damper, from the minute after a first tick with the fan off. Wherever an alarm comes or goes: the code that the low alarm and the leak alarm would have alone, and the code.
+// Flow 0.3 past the shut damper, from the minute after a first tick with the fan off. Wherever the low alarm or the leak alarm comes or goes: the code that each would have alone, and the code.
 fn leak_and_low_flow() {
     let first = shut(0.0, 0.0, false);
     let mut b = AirBox::fresh(Start::Plain).tick(first).state;

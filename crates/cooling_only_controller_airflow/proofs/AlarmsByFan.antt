@@ -7,6 +7,7 @@ use lib.IntN.{ℤ, pos}
 use lib.Ieee.{Float}
 use Rattle.f64_helpers.specs.F64.{if_then_else_}
 use Rattle.f64_helpers.specs.Integers.{_==ᶻ_}
+use Rattle.f64_helpers.proofs.Tests.{and-false}
 use Rattle.cooling_only_controller_timing.specs.Timing.{true-delay}
 use Rattle.cooling_only_controller_timing.proofs.TrueDelayLaw.{false-gives-false}
 use Rattle.cooling_only_controller_airflow.specs.Airflow.{alarms}
@@ -23,10 +24,6 @@ two-three-or-none : (a b : Bool) → let low : ℤ = if a then pos 2 else if b t
 two-three-or-none true b = inl refl
 two-three-or-none false true = inr (inl refl)
 two-three-or-none false false = inr (inr refl)
-
-and-false : (b : Bool) → b && false ≡ false
-and-false true = refl
-and-false false = refl
 
 module _ (s : AlarmsState) (t : Float) (input : AlarmInput) (delay-on-init : Bool) where
   abbrev next : AlarmsState

@@ -5,15 +5,15 @@ use Prim.Native.Nat.{ℕ, suc, _-_, _^_, _<_}
 use native.Mathlib.Omega.{arith}
 use mathlib.Core.Bool.{Bool, true, false}
 use lib.IntN.{ℤ, pos, negsuc}
-use lib.Dec.{T, eqb, eqb→eq}
+use lib.Dec.{T, eqb, eqb→eq, eqb-refl}
 use lib.Ieee.Fits.{eq→eqb}
 use mir.Syntax.{w64}
 use mir.Val.{SFits, ofZ}
 use Rattle.f64_helpers.specs.Integers.{_==ᶻ_}
 
 pub equals-means : (z : ℤ) (k : ℕ) → T (z ==ᶻ k) ↔ (z ≡ pos k)
-equals-means (pos n) k = (λ t. ap pos (eqb→eq n k t), λ e. subst (λ (z : ℤ). T (z ==ᶻ k)) (sym e) (eq→eqb {a = k} {b = k} refl))
-equals-means (negsuc n) k = (λ t. absurd t, λ e. subst (λ (z : ℤ). T (z ==ᶻ k)) (sym e) (eq→eqb {a = k} {b = k} refl))
+equals-means (pos n) k = (λ t. ap pos (eqb→eq n k t), λ e. subst (λ (z : ℤ). T (z ==ᶻ k)) (sym e) (eqb-refl k))
+equals-means (negsuc n) k = (λ t. absurd t, λ e. subst (λ (z : ℤ). T (z ==ᶻ k)) (sym e) (eqb-refl k))
 
 far : (n k : ℕ) → n < 9223372036854775808 → k < 9223372036854775808 → 18446744073709551616 - suc n ≡ k → ⊥
 far n k p q e = omega arith

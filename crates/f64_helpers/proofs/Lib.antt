@@ -1,4 +1,4 @@
-mod Tests
+pub mod Tests
 mod Values
 mod Casts
 mod Floors

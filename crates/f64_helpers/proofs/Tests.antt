@@ -1,4 +1,4 @@
--- What a test of the code tells: its answer as a fact, and `x != x` as the test for a NaN. Assumes nothing.
+-- What a test of the code tells: its answer as a fact, a flag beside one that is false, and `x != x` as the test for a NaN. Assumes nothing.
 use mathlib.Core.Path.{_≡_, refl, sym, _∙_, subst}
 use Prim.Native.Nat.{_*_}
 use mathlib.Core.Bool.{Bool, true, false, not, _&&_}
@@ -10,6 +10,10 @@ yes h = subst T (sym h) tt
 
 pub no : {b : Bool} → b ≡ false → T (not b)
 no h = subst (λ (b : Bool). T (not b)) (sym h) tt
+
+pub and-false : (b : Bool) → (b && false) ≡ false
+and-false true = refl
+and-false false = refl
 
 -- what differs from itself is a NaN
 pub nan-test : (x : Float) → ne x x ≡ isNan x

@@ -1,12 +1,12 @@
 -- The airflow sensor alarm of a box after a history of accepted ticks, from either start: its memories are those of the dead band and of the true delay over that history, and the alarm is 3 by them. Assumes nothing.
-use mathlib.Core.Path.{_≡_, refl, sym, ap, subst}
-use mathlib.Core.Logic.{_↔_, _⊎_, inl, inr}
+use mathlib.Core.Path.{_≡_, refl}
+use mathlib.Core.Logic.{_↔_, _⊎_}
 use mathlib.Core.List.{List, [], _∷_}
 use Prim.Native.Nat.{ℕ}
 use native.Mathlib.Omega.{arith}
 use mathlib.Core.Bool.{Bool, true, false, not, _&&_}
-use lib.IntN.{ℤ, pos, negsuc}
-use lib.Dec.{T, eqb→eq}
+use lib.IntN.{ℤ, pos}
+use lib.Dec.{T}
 use lib.Ieee.{Float}
 use lib.Ieee.Fits.{and-i, and-l, and-r}
 use Rattle.f64_helpers.specs.F64.{decimal, if_then_else_}
@@ -17,6 +17,7 @@ use Rattle.cooling_only_controller_timing.specs.History.{true-delay-after}
 use Rattle.cooling_only_controller_timing.specs.declared.TrueDelayState.{TrueDelayState}
 use Rattle.cooling_only_controller_timing.proofs.TrueDelayLaw.{held-is-output, whole-reached}
 use Rattle.cooling_only_controller_airflow.specs.Airflow.{alarms}
+use Rattle.cooling_only_controller_airflow.proofs.AlarmsByFan.{level-or-none}
 use Rattle.cooling_only_controller.specs.Controller.{controller-output}
 use Rattle.air_box.specs.AirBox.{delay-on-init, accepted-tick}
 use Rattle.air_box.specs.Demand2.{controller-step-of}
@@ -72,10 +73,6 @@ three-if : (b : Bool) → ((if b then pos 3 else pos 0) ≡ pos 3) ↔ T b
 three-if true = (λ e. tt, λ t. refl)
 three-if false = (λ e. let z : _≡_ {A = ℕ} 0 1 = cc in omega arith, λ t. absurd t)
 
-three-or-none : (b : Bool) → ((if b then pos 3 else pos 0) ≡ pos 3) ⊎ ((if b then pos 3 else pos 0) ≡ pos 0)
-three-or-none true = inl refl
-three-or-none false = inr refl
-
 -- it is 3 exactly if the mode is 1 and the delay's output is true; else it is 0
 pub alarm-is-three : (start : Start) (h : List Tick) (k : Tick) → (alarm-at start h k ≡ pos 3) ↔ ((mode k ≡ pos 1) × T (sensor-delay-after start (k ∷ h) .held))
 alarm-is-three start h k =
@@ -87,4 +84,4 @@ alarm-is-three start h k =
     )
 
 pub alarm-three-or-none : (start : Start) (h : List Tick) (k : Tick) → (alarm-at start h k ≡ pos 3) ⊎ (alarm-at start h k ≡ pos 0)
-alarm-three-or-none start h k = rw (alarm-by-memories start h k) (three-or-none (sensor-delay-after start (k ∷ h) .held && (mode k ==ᶻ 1)))
+alarm-three-or-none start h k = rw (alarm-by-memories start h k) (level-or-none 3 (sensor-delay-after start (k ∷ h) .held && (mode k ==ᶻ 1)))

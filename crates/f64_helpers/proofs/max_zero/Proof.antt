@@ -1,12 +1,12 @@
 -- `f64_helpers::max_zero` meets its contract. Assumes nothing.
 use mathlib.Core.Path.{_≡_, refl, sym, ap, subst, _∙_}
-use mathlib.Core.Bool.{Bool, true, false, not, _&&_, _||_}
+use mathlib.Core.Bool.{Bool, true, false, not, _||_}
 use lib.IntN.{pos}
 use lib.Dec.{T, not-T}
 use lib.Ieee.{Float, fin, ofBits, lt, eq, le, isNan}
 use Rattle.f64_helpers.specs.F64.{zero}
 use Rattle.f64_helpers.specs.Helpers.{max, negative}
-use Rattle.f64_helpers.proofs.Tests.{yes, no}
+use Rattle.f64_helpers.proofs.Tests.{yes, no, and-false}
 use Rattle.f64_helpers.proofs.LargerOfTwo.{max-by-tests}
 use Rattle.f64_helpers.proofs.Order.{le-numbers, lt→le, eq→le, not-both, lt-is-not-le}
 use Rattle.f64_helpers.proofs.max_zero.Statement.{statement}
@@ -21,10 +21,6 @@ above : (x : Float) → T (lt zero x) → x ≡ max x zero
 above x h =
     max-by-tests x zero false false false (eq zero zero) (off (isNan x) (le-numbers zero x (lt→le zero x h) .1))
     (off (lt x zero) (not-T (lt x zero) (λ l. not-both zero x h (lt→le x zero l)))) (off (eq x zero) (not-T (eq x zero) (λ l. not-both zero x h (eq→le x zero l)))) refl
-
-and-false : (b : Bool) → (b && false) ≡ false
-and-false true = refl
-and-false false = refl
 
 -- else 0 is: a zero of either sign gives +0.0, and so does a NaN
 not-above : (x : Float) → T (not (lt zero x)) → zero ≡ max x zero
