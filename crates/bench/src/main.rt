@@ -175,7 +175,20 @@ fn print_code(label: &[u8], low_airflow: i64, airflow_sensor: i64, leaking_dampe
     );
 }
 
-// Flow 0.3 past the shut damper, from the minute after a first tick with the fan off. Wherever the low alarm or the leak alarm comes or goes: the code that each would have alone, and the code.
+// The code that the low alarm and the leak alarm would have alone, and the code.
+fn print_codes(seconds: u64, alarms: Alarms) {
+    print(b"leak and low flow at", seconds);
+    print_code(b"code of the low alarm alone", alarms.low_airflow, 0, 0);
+    print_code(b"code of the leak alarm alone", 0, 0, alarms.leaking_damper);
+    print_code(
+        b"code",
+        alarms.low_airflow,
+        alarms.airflow_sensor,
+        alarms.leaking_damper,
+    );
+}
+
+// Flow 0.3 past the shut damper, from the minute after a first tick with the fan off: the codes wherever the low alarm or the leak alarm comes or goes.
 fn leak_and_low_flow() {
     let first = shut(0.0, 0.0, false);
     let mut b = AirBox::fresh(Start::Plain).tick(first).state;
@@ -188,15 +201,7 @@ fn leak_and_low_flow() {
         b = state;
         let now = alarms_of(step);
         if (now.low_airflow != low_before) | (now.leaking_damper != leak_before) {
-            print(b"leak and low flow at", seconds);
-            print_code(b"code of the low alarm alone", now.low_airflow, 0, 0);
-            print_code(b"code of the leak alarm alone", 0, 0, now.leaking_damper);
-            print_code(
-                b"code",
-                now.low_airflow,
-                now.airflow_sensor,
-                now.leaking_damper,
-            );
+            print_codes(seconds, now);
         }
         low_before = now.low_airflow;
         leak_before = now.leaking_damper;
