@@ -8,7 +8,7 @@ use lib.Dec.{T, T-not, not-T, eqb, eqb→eq}
 use lib.Ieee.{Float, round, neg, sub, mul, lt, le, eq, isNan}
 use lib.Ieee.Bits.{is-true, is-false}
 use lib.Ieee.Fits.{eq→eqb}
-use Rattle.f64_helpers.specs.F64.{decimal, zero}
+use Rattle.f64_helpers.specs.F64.{decimal}
 use Rattle.f64_helpers.specs.Helpers.{max}
 use Rattle.f64_helpers.specs.Integers.{_==ᶻ_}
 use Rattle.f64_helpers.proofs.Integers.{equals-means}
@@ -23,7 +23,8 @@ use Rattle.cooling_only_controller.specs.Controller.{controller-output}
 use Rattle.cooling_only_controller.specs.declared.ControllerOutput.{ControllerOutput}
 use Rattle.air_box.specs.AirBox.{questions, accepted-tick, tick, fresh-box, given-for, delay-on-init, desk-code}
 use Rattle.air_box.specs.Demand2.{controller-step-of}
-use Rattle.air_box.specs.LeakFirst.{alarms-of, Shows, code, old-code, Low, ListOfChanges, SensorAlone, levels, Line, line-of, together, Among, Tells, OfAnyThree, LeakFirst}
+use Rattle.air_box.specs.BenchTick.{bench-tick}
+use Rattle.air_box.specs.LeakFirst.{alarms-of, Shows, AtEveryTick, code, old-code, Low, ListOfChanges, SensorAlone, levels, Line, line-of, together, Among, Tells, OfAnyThree, LeakFirst}
 use Rattle.air_box.specs.declared.Tick.{Tick}
 use Rattle.air_box.specs.declared.AirBox.{AirBox}
 use Rattle.air_box.specs.declared.Start.the-variants.{Plain}
@@ -72,12 +73,12 @@ of-stage s t input delay-on-init = by-fan (input .«supply_fan_status») refl
     by-fan true e = with-fan-on _ (sensor-with-fan-on s t input delay-on-init e) (low-levels s t input delay-on-init) (leak-levels s t input delay-on-init)
     by-fan false e = with-fan-off _ (low-with-fan-off s t input delay-on-init e) (leak-with-fan-off s t input delay-on-init e) (sensor-levels s t input delay-on-init)
 
-complete : (box : AirBox) (k : Tick) (a : AlarmOutput) → Shows box k a → Among (line-of a) together
+complete : AtEveryTick (λ a. Among (line-of a) together)
 complete box k a shows = subst (λ (x : AlarmOutput). Among (line-of x) together) (shown-by-stage box k a shows) (of-stage _ _ _ _)
 
 -- ---- what holds of the seven holds of every accepted tick
 by-lines : (P : AlarmOutput → Type 0) → P (levels 0 0 0) → P (levels 2 0 0) → P (levels 3 0 0) → P (levels 0 3 0) → P (levels 0 0 4) → P (levels 2 0 4) → P (levels 3 0 4)
-    → (box : AirBox) (k : Tick) (a : AlarmOutput) → Shows box k a → P a
+    → AtEveryTick P
 by-lines P p000 p200 p300 p030 p004 p204 p304 box k a shows = go (complete box k a shows)
   where
     at : (l : Line) → P (l .standing) → line-of a ≡ l → P a
@@ -116,7 +117,7 @@ without-low : (sensor leak : ℕ) → ¬ Low (levels 0 sensor leak)
 without-low sensor leak (inl e) = levels-apart 0 2 tt e
 without-low sensor leak (inr e) = levels-apart 0 3 tt e
 
-list-of-changes : (box : AirBox) (k : Tick) (a : AlarmOutput) → Shows box k a → ListOfChanges a
+list-of-changes : AtEveryTick ListOfChanges
 unfolding desk-code
 list-of-changes =
     by-lines ListOfChanges
@@ -145,7 +146,7 @@ without-sensor low leak = record {
   without-low = λ sensor. absurd (levels-apart 0 3 tt sensor);
 }
 
-sensor-alone : (box : AirBox) (k : Tick) (a : AlarmOutput) → Shows box k a → SensorAlone a
+sensor-alone : AtEveryTick SensorAlone
 sensor-alone =
     by-lines SensorAlone (without-sensor 0 0) (without-sensor 2 0) (without-sensor 3 0)
     record { without-leak = λ sensor. levels-apart 0 4 tt; without-low = λ sensor. without-low 3 0 }
@@ -165,7 +166,7 @@ tells-leak low = record {
   code-34 = λ e. (refl, refl);
 }
 
-tells : (box : AirBox) (k : Tick) (a : AlarmOutput) → Shows box k a → Tells a
+tells : AtEveryTick Tells
 unfolding desk-code
 tells =
     by-lines Tells
@@ -186,46 +187,25 @@ any-three a =
       other-leak = λ other. rw (is-false test (not-T test (λ t. other (leak .0 t))));
     }
 
--- ---- each line is shown, by the first tick of a plain start: flow 0.3, mode 1
-first-tick : ℕ → ℕ → Bool → Tick
-first-tick airflow-override damper-override fan =
-    record {
-      t = zero;
-      input = record {
-        «zone_temperature» = decimal 296 1;
-        «cooling_setpoint» = decimal 297 1;
-        «heating_setpoint» = decimal 293 1;
-        «window_status» = true;
-        «occupancy_status» = true;
-        «operating_mode» = pos 1;
-        «co2_setpoint» = decimal 894 1;
-        «co2_concentration» = decimal 600 1;
-        «discharge_air_temperature» = decimal 288 1;
-        «supply_air_temperature» = decimal 287 1;
-        «discharge_airflow» = decimal 3 10;
-        «airflow_override_index» = pos airflow-override;
-        «damper_override_index» = pos damper-override;
-        «supply_fan_status» = fan;
-      };
-    }
+-- ---- each line is shown, by a first tick with flow 0.3, these overrides and this fan
+abbrev First : ℕ → ℕ → Bool → AlarmOutput → Type 0
+First airflow-override damper-override fan a = Shows (fresh-box Plain) (bench-tick (decimal 3 10) (pos airflow-override) (pos damper-override) fan) a
 
-abbrev Seen : Line → Type 0
-Seen l = (k : Tick) × (a : AlarmOutput) × Shows (fresh-box Plain) k a × (line-of a ≡ l)
-
--- the line of these alarms is shown at this tick
-seen : (k : Tick) (a : AlarmOutput) (l m : Line) → Shows (fresh-box Plain) k a → line-of a ≡ m → l ≡ m → Seen l
-seen k a l m shows e f = (k, a, shows, e ∙ sym f)
-
-each-shown : (l : Line) → Among l together → Seen l
-unfolding first-tick desk-code questions accepted-tick tick controller-output damper alarms
+first-ticks : First 1 2 true (levels 0 0 0) × First 2 2 true (levels 2 0 0) × First 3 2 true (levels 3 0 0) × First 1 2 false (levels 0 3 0)
+    × First 1 1 true (levels 0 0 4) × First 2 1 true (levels 2 0 4) × First 3 1 true (levels 3 0 4)
+unfolding questions accepted-tick tick controller-output damper alarms
     true-delay true-delay-output hysteresis less-hysteretic greater-hysteretic max round neg sub mul lt le eq isNan
-each-shown l (inl e) = seen (first-tick 1 2 true) (levels 0 0 0) l _ (_, refl, refl) refl e
-each-shown l (inr (inl e)) = seen (first-tick 2 2 true) (levels 2 0 0) l _ (_, refl, refl) refl e
-each-shown l (inr (inr (inl e))) = seen (first-tick 3 2 true) (levels 3 0 0) l _ (_, refl, refl) refl e
-each-shown l (inr (inr (inr (inl e)))) = seen (first-tick 1 2 false) (levels 0 3 0) l _ (_, refl, refl) refl e
-each-shown l (inr (inr (inr (inr (inl e))))) = seen (first-tick 1 1 true) (levels 0 0 4) l _ (_, refl, refl) refl e
-each-shown l (inr (inr (inr (inr (inr (inl e)))))) = seen (first-tick 2 1 true) (levels 2 0 4) l _ (_, refl, refl) refl e
-each-shown l (inr (inr (inr (inr (inr (inr (inl e))))))) = seen (first-tick 3 1 true) (levels 3 0 4) l _ (_, refl, refl) refl e
+first-ticks = ((_, refl, refl), (_, refl, refl), (_, refl, refl), (_, refl, refl), (_, refl, refl), (_, refl, refl), (_, refl, refl))
+
+each-shown : (l : Line) → Among l together → (k : Tick) × (a : AlarmOutput) × Shows (fresh-box Plain) k a × (line-of a ≡ l)
+unfolding desk-code
+each-shown l (inl e) = (_, _, first-ticks .0, sym e)
+each-shown l (inr (inl e)) = (_, _, first-ticks .1, sym e)
+each-shown l (inr (inr (inl e))) = (_, _, first-ticks .2, sym e)
+each-shown l (inr (inr (inr (inl e)))) = (_, _, first-ticks .3, sym e)
+each-shown l (inr (inr (inr (inr (inl e))))) = (_, _, first-ticks .4, sym e)
+each-shown l (inr (inr (inr (inr (inr (inl e)))))) = (_, _, first-ticks .5, sym e)
+each-shown l (inr (inr (inr (inr (inr (inr (inl e))))))) = (_, _, first-ticks .6, sym e)
 each-shown l (inr (inr (inr (inr (inr (inr (inr e))))))) = absurd e
 
 pub leak-first : LeakFirst
@@ -236,4 +216,5 @@ leak-first = record {
   each-shown = each-shown;
   tells = tells;
   any-three = any-three;
+  document-02 = first-ticks .6;
 }

@@ -1,16 +1,17 @@
 -- Document 02, N7: the leak comes first in the desk code. Which codes move by that, and which alarms can stand together.
--- The claims about ticks are over every box, whatever it holds, and every tick that it accepts; they need no history.
 -- The method `AirBox::tick` is proved to return `tick`, of which `given-for` is made, and `desk_code` to return `desk-code`.
 use mathlib.Core.Path.{_≡_}
 use mathlib.Core.Logic.{_↔_, _⊎_, _≢_, inl}
 use mathlib.Core.List.{List, [], _∷_}
 use Prim.Native.Nat.{ℕ}
+use mathlib.Core.Bool.{true}
 use lib.IntN.{pos}
-use Rattle.f64_helpers.specs.F64.{if_then_else_}
+use Rattle.f64_helpers.specs.F64.{decimal, if_then_else_}
 use Rattle.f64_helpers.specs.Integers.{_==ᶻ_}
 use Rattle.cooling_only_controller.specs.declared.ControllerOutput.{ControllerOutput}
 use Rattle.cooling_only_controller_airflow.specs.declared.AlarmOutput.{AlarmOutput}
 use Rattle.air_box.specs.AirBox.{fresh-box, given-for, desk-code}
+use Rattle.air_box.specs.BenchTick.{bench-tick}
 use Rattle.air_box.specs.declared.Tick.{Tick}
 use Rattle.air_box.specs.declared.AirBox.{AirBox}
 use Rattle.air_box.specs.declared.Start.the-variants.{Plain}
@@ -30,7 +31,11 @@ alarms-of output =
 abbrev pub Shows : AirBox → Tick → AlarmOutput → Type 0
 Shows box k a = (output : ControllerOutput) × (given-for box k ≡ inl output) × (alarms-of output ≡ a)
 
--- their desk code
+-- P holds of the alarms of every tick that any box accepts, whatever that box holds.
+abbrev pub AtEveryTick : (AlarmOutput → Type 0) → Type 0
+AtEveryTick P = (box : AirBox) (k : Tick) (a : AlarmOutput) → Shows box k a → P a
+
+-- the desk code of three alarms
 abbrev pub code : AlarmOutput → ℕ
 code a = desk-code (a .«low_airflow») (a .«airflow_sensor») (a .«leaking_damper»)
 
@@ -114,11 +119,13 @@ pub record OfAnyThree (a : AlarmOutput) : Type 0 where
 
 -- ---- N7
 pub record LeakFirst : Type 0 where
-  pub list-of-changes : (box : AirBox) (k : Tick) (a : AlarmOutput) → Shows box k a → ListOfChanges a
-  pub sensor-alone : (box : AirBox) (k : Tick) (a : AlarmOutput) → Shows box k a → SensorAlone a
-  -- the list is complete
-  pub complete : (box : AirBox) (k : Tick) (a : AlarmOutput) → Shows box k a → Among (line-of a) together
+  pub list-of-changes : AtEveryTick ListOfChanges
+  pub sensor-alone : AtEveryTick SensorAlone
+  -- the list of what can stand together is complete
+  pub complete : AtEveryTick (λ a. Among (line-of a) together)
   -- and each of its lines is shown: by a plain start's first tick
   pub each-shown : (l : Line) → Among l together → (k : Tick) × (a : AlarmOutput) × Shows (fresh-box Plain) k a × (line-of a ≡ l)
-  pub tells : (box : AirBox) (k : Tick) (a : AlarmOutput) → Shows box k a → Tells a
+  pub tells : AtEveryTick Tells
   pub any-three : (a : AlarmOutput) → OfAnyThree a
+  -- document 02's tick: flow 0.3, airflow override 3, damper override 1, fan on; at a plain start's first tick what stands counts as long enough
+  pub document-02 : Shows (fresh-box Plain) (bench-tick (decimal 3 10) (pos 3) (pos 1) true) (levels 3 0 4)

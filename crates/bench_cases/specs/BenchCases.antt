@@ -21,6 +21,7 @@ use Rattle.cooling_only_controller_airflow.specs.declared.DamperInput.{DamperIn
 use Rattle.cooling_only_controller_airflow.specs.declared.AlarmInput.{AlarmInput}
 use Rattle.cooling_only_controller_airflow.specs.declared.AlarmsState.{AlarmsState}
 use Rattle.air_box.specs.AirBox.{tick, fresh-box}
+use Rattle.air_box.specs.BenchTick.{bench-tick}
 use Rattle.air_box.specs.declared.Tick.{Tick}
 use Rattle.air_box.specs.declared.Start.the-variants.{Plain}
 use Rattle.air_box.specs.declared.Answer.{Answer}
@@ -123,28 +124,9 @@ first-sampled = sampler-sample fresh-sampler (decimal 130 1) (decimal 1 1) (deci
 abbrev then-sampled : Float → Value
 then-sampled t = number (sampler-sample first-sampled t (decimal 2 1) (decimal 120 1) .output)
 
--- ---- k: the whole box on its first tick
+-- ---- k: the whole box on its first tick: discharge 0.75, airflow override 2, no damper override
 abbrev tick-k : Tick
-tick-k =
-    record {
-      t = zero;
-      input = record {
-        «zone_temperature» = decimal 295 1;
-        «cooling_setpoint» = decimal 297 1;
-        «heating_setpoint» = decimal 293 1;
-        «window_status» = true;
-        «occupancy_status» = true;
-        «operating_mode» = pos 1;
-        «co2_setpoint» = decimal 894 1;
-        «co2_concentration» = decimal 500 1;
-        «discharge_air_temperature» = decimal 288 1;
-        «supply_air_temperature» = decimal 287 1;
-        «discharge_airflow» = decimal 75 100;
-        «airflow_override_index» = pos 2;
-        «damper_override_index» = pos 0;
-        «supply_fan_status» = true;
-      };
-    }
+tick-k = bench-tick (decimal 75 100) (pos 2) (pos 0) true
 
 -- the damper command of an answer; a refusal has none, for which -1.0 stands
 abbrev damper-command : Answer → Value
