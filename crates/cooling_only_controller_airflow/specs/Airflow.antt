@@ -3,7 +3,8 @@
 -- A let holds the Rust's value of its name, with one exception: where the Rust calls a block that keeps a state (`true-delay`,
 -- `sampler-sample`), the let holds the block's step. Its `.output` is the Rust's value, its `.state` the block afterwards.
 -- Comparators (`hysteresis`, `greater-hysteretic`, `less-hysteretic`), `buildings-line` and `clamp` give the value itself.
--- `delay-on-init` is false in the Rust; a quiet start runs the nine true delays of system requests and alarms with true.
+-- `delay-on-init` is false in the Rust. A quiet start runs eight true delays with true: the three of system requests, and all of alarms
+-- but the fan's arming, which starts alike in both (document 02, N4).
 use mathlib.Core.Bool.{Bool, false, not, _&&_}
 use lib.IntN.{ℤ, pos}
 use lib.Ieee.{Float}
@@ -177,7 +178,7 @@ fresh-alarms =
 unfoldable pub alarms : AlarmsState → Float → AlarmInput → Bool → AlarmsStep
 alarms s t input delay-on-init =
     let occupied = input .«operation_mode» ==ᶻ 1 in
-    let fan-armed = true-delay (s .«fan_armed») t (input .«supply_fan_status») (decimal 1800 1) delay-on-init in
+    let fan-armed = true-delay (s .«fan_armed») t (input .«supply_fan_status») (decimal 1800 1) false in
     let setpoint-nonzero = hysteresis (input .«active_airflow_setpoint») (decimal 5 1000) (decimal 1 100) (s .«setpoint_nonzero») in
     let setpoint-on = true-delay (s .«setpoint_on») t setpoint-nonzero (decimal 300 1) delay-on-init in
     let low-half = less-hysteretic (input .«discharge_airflow») (decimal 5 10 ⊗ input .«active_airflow_setpoint»)

@@ -481,8 +481,9 @@ impl AlarmsState {
     {
         let flow = input.discharge_airflow;
         let setpoint = input.active_airflow_setpoint;
+        // Quiet start or not: a fan that is on at the first tick has usually run for hours.
         let fan_armed = self.fan_armed
-            .output(t, input.supply_fan_status, 1800.0, delay_on_init);
+            .output(t, input.supply_fan_status, 1800.0, false);
         let setpoint_nonzero = hysteresis(setpoint, 0.005, 0.01, self.setpoint_nonzero);
         let setpoint_on = self.setpoint_on
             .output(t, setpoint_nonzero, 300.0, delay_on_init);

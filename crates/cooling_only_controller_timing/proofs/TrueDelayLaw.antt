@@ -32,6 +32,13 @@ pub false-gives-false : (s : TrueDelayState) (t delay-time : Float) (delay-on-in
 unfolding true-delay true-delay-output
 false-gives-false s t delay-time delay-on-init = refl
 
+-- after its first sample, delay_on_init is nothing to it
+pub on-init-at-the-first-alone : (s : TrueDelayState) (t : Float) (u : Bool) (delay-time : Float) (delay-on-init : Bool) (p : Float) → s .«previous_time» ≡ At p
+    → true-delay s t u delay-time false ≡ true-delay s t u delay-time delay-on-init
+unfolding true-delay true-delay-output
+on-init-at-the-first-alone s t true delay-time delay-on-init p e = rw e
+on-init-at-the-first-alone s t false delay-time delay-on-init p e = refl
+
 -- ---- a delay, and the larger of it and 0, are reached by the same whole numbers
 number-if-reached : (x : Float) (d : ℕ) → Reach x d → T (not (isNan x))
 number-if-reached x d reach =
@@ -89,6 +96,11 @@ module _ (d : ℕ) (delay-on-init : Bool) (now : ℕ) where
   true-since-kept [] (k ∷ h) r o = absurd r
   true-since-kept (j ∷ g) [] r o = absurd r
   true-since-kept (j ∷ g) (k ∷ h) r o = (r .0 .1 (o .0), ⊎-elim (λ e. inl (omega (arith, r .0 .0))) (λ p. inr (true-since-kept g h (r .1) p)) (o .1))
+
+-- what is long enough with delay_on_init is so without it
+pub true-since-without-on-init : (d : ℕ) (delay-on-init : Bool) (now : ℕ) (h : List Sample) → TrueSince d delay-on-init now h → TrueSince d false now h
+true-since-without-on-init d delay-on-init now [] o = tt
+true-since-without-on-init d delay-on-init now (k ∷ h) o = (o .0, ⊎-elim (λ e. inl e) (λ r. inr (true-since-without-on-init d delay-on-init now h r)) (o .1))
 
 pub true-since-later : (d : ℕ) (delay-on-init : Bool) (a b : ℕ) → a ≤ b → (h : List Sample) → TrueSince d delay-on-init a h → TrueSince d delay-on-init b h
 true-since-later d delay-on-init a b l [] o = o

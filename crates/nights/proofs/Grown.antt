@@ -34,10 +34,10 @@ grown-start start [] = refl
 grown-start start (k ∷ h) = grown-start start h
 
 -- ---- its tick
-grown-accepts : (start : Start) (h : List Tick) (k : Tick) → AllYes (newest-time h) k → tick (grown start h) k ≡ accepted-tick (grown start h) k
+pub grown-accepts : (start : Start) (h : List Tick) (k : Tick) → AllYes (newest-time h) k → tick (grown start h) k ≡ accepted-tick (grown start h) k
 grown-accepts start h k all = tick-accepted (grown start h) k (subst (λ (last : OptionalTime). AllYes last k) (sym (grown-last start h)) all)
 
-grown-refuses : (start : Start) (h : List Tick) (k : Tick) (reason : Refusal) → FirstNo reason (newest-time h) k → tick (grown start h) k ≡ record { state = grown start h; answer = Refused reason }
+pub grown-refuses : (start : Start) (h : List Tick) (k : Tick) (reason : Refusal) → FirstNo reason (newest-time h) k → tick (grown start h) k ≡ record { state = grown start h; answer = Refused reason }
 grown-refuses start h k reason first = tick-refused (grown start h) k reason (subst (λ (last : OptionalTime). FirstNo reason last k) (sym (grown-last start h)) first)
 
 -- a step of a night, by what the box's tick gives

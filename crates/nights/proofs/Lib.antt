@@ -7,3 +7,5 @@ pub mod SensorAlarm
 pub mod EveryNight
 pub mod TwoNights
 pub mod Demand3
+pub mod LowAirflowAlarm
+pub mod QuietStart

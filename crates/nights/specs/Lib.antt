@@ -1,2 +1,3 @@
 pub mod Nights
 pub mod Demand3
+pub mod QuietStart

@@ -1,0 +1,283 @@
+-- N4, part 1. Assumes nothing.
+use mathlib.Core.Path.{_≡_, refl, sym, ap, _∙_, subst}
+use mathlib.Core.List.{List, [], _∷_}
+use mathlib.Core.Bool.{Bool, true, false}
+use lib.IntN.{ℤ}
+use lib.Ieee.{Float}
+use Rattle.f64_helpers.specs.F64.{decimal}
+use Rattle.f64_helpers.proofs.Tests.{and-false}
+use Rattle.cdl_recurrences.specs.CdlRecurrences.{true-delay-output}
+use Rattle.cdl_recurrences.specs.DeadBand.{Related}
+use Rattle.cdl_recurrences.specs.declared.OptionalTime.{OptionalTime}
+use Rattle.cdl_recurrences.specs.declared.OptionalTime.the-variants.{At}
+use Rattle.cooling_only_controller_timing.specs.Timing.{true-delay}
+use Rattle.cooling_only_controller_timing.specs.declared.TrueDelayState.{TrueDelayState}
+use Rattle.cooling_only_controller_timing.proofs.TrueDelayLaw.{on-init-at-the-first-alone}
+use Rattle.cooling_only_controller_airflow.specs.Airflow.{alarms}
+use Rattle.cooling_only_controller_airflow.specs.declared.AlarmInput.{AlarmInput}
+use Rattle.cooling_only_controller_airflow.specs.declared.AlarmsState.{AlarmsState}
+use Rattle.cooling_only_controller.specs.Controller.{controller-output}
+use Rattle.cooling_only_controller.specs.declared.ControllerStep.{ControllerStep}
+use Rattle.air_box.proofs.Demands.{questions-accept, questions-refuse, by-verdict}
+use Rattle.air_box.specs.Demand1.{AllYes, FirstNo}
+use Rattle.air_box.specs.Demand2.{controller-step-of}
+use Rattle.air_box.specs.AirBox.{fresh-box, delay-on-init, decided, accepted-tick, tick, questions, outputs-or-number}
+use Rattle.air_box.specs.declared.Tick.{Tick}
+use Rattle.air_box.specs.declared.AirBox.{AirBox}
+use Rattle.air_box.specs.declared.Start.{Start}
+use Rattle.air_box.specs.declared.Start.the-variants.{Plain}
+use Rattle.air_box.specs.declared.AirBoxStep.{AirBoxStep}
+use Rattle.air_box.specs.declared.Answer.the-variants.{Refused}
+use Rattle.air_box.specs.declared.Refusal.{Refusal}
+use Rattle.air_box.specs.declared.Verdict.{Verdict}
+use Rattle.air_box.specs.declared.Verdict.the-variants.{Accept, Refuse}
+use Rattle.nights.specs.Nights.{NightStep, steps, fan, mode}
+use Rattle.nights.proofs.Histories.{newest-time}
+use Rattle.nights.proofs.AcceptedTicks.{AllAccepted}
+use Rattle.nights.proofs.Grown.{grown, grown-last, grown-start, grown-accepts, grown-refuses}
+use Rattle.nights.proofs.LowAirflowAlarm.{Taken, AlarmsAlong, never-later}
+use Rattle.nights.specs.QuietStart.{alarms-armed, old-alarms, controller-with, old-accepted-tick, old-decided, old-tick, old-steps, box-after, OnePlace, PlainUntouched, NineOutputs, NeverLater, SameFields, SameButLowAirflow, EveryNight, SameFromAStop, QuietStart}
+
+one-place : OnePlace
+unfolding alarms alarms-armed controller-output
+one-place = record { stage = λ s t input delay-on-init. refl; controller = λ s t input delay-on-init. refl }
+
+-- ---- where the arming delay steps alike, so does the box
+abbrev ArmsAlike : AirBox → Tick → Type 0
+ArmsAlike box k =
+    let arming = box .state .alarms .«fan_armed» in
+    true-delay arming (k .t) (fan k) (decimal 1800 1) false ≡ true-delay arming (k .t) (fan k) (decimal 1800 1) (delay-on-init (box .start))
+
+decided-alike : (v : Verdict) (box : AirBox) (k : Tick) → ArmsAlike box k → decided v box k ≡ old-decided v box k
+unfolding accepted-tick old-accepted-tick controller-output alarms alarms-armed
+decided-alike Accept box k e = rw e
+decided-alike (Refuse reason) box k e = refl
+
+tick-alike : (box : AirBox) (k : Tick) → ArmsAlike box k → tick box k ≡ old-tick box k
+unfolding tick old-tick
+tick-alike box k e = decided-alike (questions (box .«last_time») k) box k e
+
+plain-untouched : PlainUntouched
+plain-untouched box k plain = tick-alike box k (rw plain)
+
+-- ---- once the arming delay has had a tick it steps alike
+abbrev HasTicked : AirBox → Type 0
+HasTicked box = (p : Float) × (box .state .alarms .«fan_armed» .«previous_time» ≡ At p)
+
+accepted-ticked : (box : AirBox) (k : Tick) → HasTicked (accepted-tick box k .state)
+unfolding accepted-tick controller-output alarms true-delay
+accepted-ticked box k = (k .t, refl)
+
+still-ticked : (v : Verdict) (box : AirBox) (k : Tick) → HasTicked box → HasTicked (decided v box k .state)
+still-ticked Accept box k e = accepted-ticked box k
+still-ticked (Refuse reason) box k e = e
+
+steps-alike : (box : AirBox) (ks : List Tick) → HasTicked box → steps box ks ≡ old-steps box ks
+unfolding tick
+steps-alike box [] e = refl
+steps-alike box (k ∷ ks) e =
+    let alike = tick-alike box k (on-init-at-the-first-alone _ (k .t) (fan k) (decimal 1800 1) (delay-on-init (box .start)) (e .0) (e .1)) in
+    let rest = steps-alike (tick box k .state) ks (still-ticked (questions (box .«last_time») k) box k e) in
+    rw (sym alike) (ap (λ (l : List NightStep). record { ticked = k; given = outputs-or-number (tick box k .answer); box = tick box k .state } ∷ l) rest)
+
+-- ---- one accepted tick of two boxes that hold the same but for the three delays
+abbrev with-alarms : AlarmsState → AirBox → AirBox
+with-alarms a box =
+    record {
+      state = record {
+        «time_suppression» = box .state .«time_suppression»;
+        «control_loops» = box .state .«control_loops»;
+        setpoints = box .state .setpoints;
+        «zone_states» = box .state .«zone_states»;
+        dampers = box .state .dampers;
+        «system_requests» = box .state .«system_requests»;
+        alarms = a;
+      };
+      «last_time» = box .«last_time»;
+      start = box .start;
+    }
+
+abbrev old-step-of : AirBox → Tick → ControllerStep
+old-step-of box k = controller-with old-alarms (box .state) (k .t) (k .input) (delay-on-init (box .start))
+
+-- the old box is the new one with alarms of its own
+old-box : (new old : AirBox) → SameFields new old → old ≡ with-alarms (old .state .alarms) new
+old-box new old same =
+    rw (
+      same .time-suppression,
+      same .control-loops,
+      same .setpoints,
+      same .zone-states,
+      same .dampers,
+      same .system-requests,
+      same .last-time,
+      same .start,
+    )
+
+fields-of : (new old : AirBox) (k : Tick) → SameFields new old → SameFields (accepted-tick new k .state) (old-accepted-tick old k .state)
+unfolding accepted-tick old-accepted-tick controller-output alarms alarms-armed
+fields-of new old k same =
+    subst (λ (o : AirBox). SameFields (accepted-tick new k .state) (old-accepted-tick o k .state)) (sym (old-box new old same)) record {
+      time-suppression = refl;
+      control-loops = refl;
+      setpoints = refl;
+      zone-states = refl;
+      dampers = refl;
+      system-requests = refl;
+      setpoint-nonzero = rw (same .setpoint-nonzero);
+      setpoint-on = rw (same .setpoint-nonzero, same .setpoint-on);
+      low-half = rw (same .low-half);
+      low-seventy = rw (same .low-seventy);
+      flow-high = rw (same .flow-high);
+      sensor-delay = rw (same .flow-high, same .sensor-delay);
+      damper-closed = rw (same .damper-closed);
+      leak-delay = rw (same .damper-closed, same .flow-high, same .leak-delay);
+      last-time = refl;
+      start = refl;
+    }
+
+outputs-of : (new old : AirBox) (k : Tick) → SameFields new old → NineOutputs (controller-step-of new k .output) (old-step-of old k .output)
+unfolding controller-output alarms alarms-armed
+outputs-of new old k same =
+    subst (λ (o : AirBox). NineOutputs (controller-step-of new k .output) (old-step-of o k .output)) (sym (old-box new old same)) record {
+      airflow-setpoint = refl;
+      damper-command = refl;
+      adjusted-population-flow = refl;
+      adjusted-area-flow = refl;
+      minimum-outdoor-airflow = refl;
+      temperature-request = refl;
+      pressure-request = refl;
+      airflow-sensor-alarm = rw (same .flow-high, same .sensor-delay);
+      leaking-damper-alarm = rw (same .damper-closed, same .flow-high, same .leak-delay);
+    }
+
+-- With the fan off the three delays are given false, and what they held is nothing to them.
+stop-alike : (new old : AirBox) (k : Tick) → SameFields new old → fan k ≡ false → accepted-tick new k ≡ old-accepted-tick old k
+unfolding accepted-tick old-accepted-tick controller-output alarms alarms-armed true-delay true-delay-output
+stop-alike new old k same off =
+    subst (λ (o : AirBox). accepted-tick new k ≡ old-accepted-tick o k) (sym (old-box new old same))
+    (rw (off, same .setpoint-nonzero, same .setpoint-on, same .low-half, same .low-seventy, same .flow-high, same .sensor-delay, same .damper-closed, same .leak-delay, and-false, and-false))
+
+-- ---- both boxes after a history of accepted ticks
+abbrev old-grown : Start → List Tick → AirBox
+old-grown start [] = fresh-box start
+old-grown start (k ∷ h) = old-accepted-tick (old-grown start h) k .state
+
+fields-kept : (start : Start) (h : List Tick) → SameFields (grown start h) (old-grown start h)
+fields-kept start [] = record {
+  time-suppression = refl;
+  control-loops = refl;
+  setpoints = refl;
+  zone-states = refl;
+  dampers = refl;
+  system-requests = refl;
+  setpoint-nonzero = refl;
+  setpoint-on = refl;
+  low-half = refl;
+  low-seventy = refl;
+  flow-high = refl;
+  sensor-delay = refl;
+  damper-closed = refl;
+  leak-delay = refl;
+  last-time = refl;
+  start = refl;
+}
+fields-kept start (k ∷ h) = fields-of (grown start h) (old-grown start h) k (fields-kept start h)
+
+-- ---- the low airflow alarm of both
+
+new-taken : (box : AirBox) (k : Tick)
+    → Taken false (delay-on-init (box .start)) k (box .state .alarms) (accepted-tick box k .state .state .alarms) (controller-step-of box k .output .«low_airflow_alarm»)
+unfolding accepted-tick old-accepted-tick controller-output alarms alarms-armed
+new-taken box k = (_, refl, refl, refl, refl)
+
+old-taken : (box : AirBox) (k : Tick)
+    → Taken (delay-on-init (box .start)) (delay-on-init (box .start)) k (box .state .alarms) (old-accepted-tick box k .state .state .alarms) (old-step-of box k .output .«low_airflow_alarm»)
+unfolding old-accepted-tick
+old-taken box k = (_, refl, refl, refl, refl)
+
+abbrev new-along : (start : Start) → AlarmsAlong false (delay-on-init start)
+new-along start = record {
+  after = λ h. grown start h .state .alarms;
+  level = λ h k. controller-step-of (grown start h) k .output .«low_airflow_alarm»;
+  fresh = refl;
+  taken = λ h k. subst (λ (c : Start). Taken false (delay-on-init c) k (grown start h .state .alarms) (grown start (k ∷ h) .state .alarms) (controller-step-of (grown start h) k .output .«low_airflow_alarm»)) (grown-start start h) (new-taken (grown start h) k);
+}
+
+abbrev old-along : (start : Start) → AlarmsAlong (delay-on-init start) (delay-on-init start)
+old-along start = record {
+  after = λ h. old-grown start h .state .alarms;
+  level = λ h k. old-step-of (old-grown start h) k .output .«low_airflow_alarm»;
+  fresh = refl;
+  taken = λ h k. subst (λ (c : Start). Taken (delay-on-init c) (delay-on-init c) k (old-grown start h .state .alarms) (old-grown start (k ∷ h) .state .alarms) (old-step-of (old-grown start h) k .output .«low_airflow_alarm»)) (sym (fields-kept start h .start) ∙ grown-start start h) (old-taken (old-grown start h) k);
+}
+
+earlier-or-same : (start : Start) (h : List Tick) (k : Tick) → AllAccepted (k ∷ h) → NeverLater (controller-step-of (grown start h) k .output) (old-step-of (old-grown start h) k .output)
+earlier-or-same start = never-later (delay-on-init start) (new-along start) (old-along start) (λ h.
+    let same = fields-kept start h in record { low-half = same .low-half; low-seventy = same .low-seventy; setpoint-on = same .setpoint-on })
+
+-- ---- along a night
+old-last : (start : Start) (h : List Tick) → old-grown start h .«last_time» ≡ newest-time h
+old-last start h = sym (fields-kept start h .last-time) ∙ grown-last start h
+
+old-accepts : (start : Start) (h : List Tick) (k : Tick) → AllYes (newest-time h) k → old-tick (old-grown start h) k ≡ old-accepted-tick (old-grown start h) k
+unfolding old-tick
+old-accepts start h k all = rw (old-last start h, questions-accept (newest-time h) k .1 all)
+
+old-refuses : (start : Start) (h : List Tick) (k : Tick) (reason : Refusal) → FirstNo reason (newest-time h) k → old-tick (old-grown start h) k ≡ record { state = old-grown start h; answer = Refused reason }
+unfolding old-tick
+old-refuses start h k reason first = rw (old-last start h, questions-refuse (newest-time h) k reason .1 first)
+
+abbrev Both : Tick → List Tick → AirBoxStep → AirBoxStep → Type 0
+Both k ks new old =
+    Related SameButLowAirflow (record { ticked = k; given = outputs-or-number (new .answer); box = new .state } ∷ steps (new .state) ks)
+    (record { ticked = k; given = outputs-or-number (old .answer); box = old .state } ∷ old-steps (old .state) ks)
+
+along-both : (start : Start) (h ks : List Tick) → AllAccepted h → Related SameButLowAirflow (steps (grown start h) ks) (old-steps (old-grown start h) ks)
+unfolding accepted-tick old-accepted-tick
+along-both start h [] a = tt
+along-both start h (k ∷ ks) a =
+    by-verdict (newest-time h) k
+    (λ all.
+        subst (λ (new : AirBoxStep). Both k ks new (old-tick (old-grown start h) k)) (sym (grown-accepts start h k all))
+        (subst (λ (old : AirBoxStep). Both k ks (accepted-tick (grown start h) k) old) (sym (old-accepts start h k all))
+        (record { ticked = refl; given = (outputs-of _ _ k (fields-kept start h), earlier-or-same start h k (all, a)); fields = fields-kept start (k ∷ h) },
+        along-both start (k ∷ h) ks (all, a))))
+    (λ reason first.
+        subst (λ (new : AirBoxStep). Both k ks new (old-tick (old-grown start h) k)) (sym (grown-refuses start h k reason first))
+        (subst (λ (old : AirBoxStep). Both k ks (record { state = grown start h; answer = Refused reason }) old) (sym (old-refuses start h k reason first))
+        (record { ticked = refl; given = refl; fields = fields-kept start h }, along-both start h ks a)))
+
+every-night : EveryNight
+every-night start night = along-both start [] night tt
+
+-- ---- from the fan's stop on
+-- what a night has come to: a history that both boxes have accepted
+abbrev Reached : Start → List Tick → AirBox → AirBox → Type 0
+Reached start ks new old = (g : List Tick) × AllAccepted g × (box-after tick new ks ≡ grown start g) × (box-after old-tick old ks ≡ old-grown start g)
+
+reached : (start : Start) (h ks : List Tick) → AllAccepted h → Reached start ks (grown start h) (old-grown start h)
+reached start h [] a = (h, a, refl, refl)
+reached start h (k ∷ ks) a =
+    by-verdict (newest-time h) k
+    (λ all.
+        subst (λ (new : AirBoxStep). Reached start ks (new .state) (old-tick (old-grown start h) k .state)) (sym (grown-accepts start h k all))
+        (subst (λ (old : AirBoxStep). Reached start ks (grown start (k ∷ h)) (old .state)) (sym (old-accepts start h k all)) (reached start (k ∷ h) ks (all, a))))
+    (λ reason first.
+        subst (λ (new : AirBoxStep). Reached start ks (new .state) (old-tick (old-grown start h) k .state)) (sym (grown-refuses start h k reason first))
+        (subst (λ (old : AirBoxStep). Reached start ks (grown start h) (old .state)) (sym (old-refuses start h k reason first)) (reached start h ks a)))
+
+stopped : (start : Start) (h : List Tick) (k : Tick) (rest : List Tick) → AllYes (newest-time h) k → fan k ≡ false → steps (grown start h) (k ∷ rest) ≡ old-steps (old-grown start h) (k ∷ rest)
+stopped start h k rest all off =
+    let alike : tick (grown start h) k ≡ old-tick (old-grown start h) k =
+    grown-accepts start h k all ∙ stop-alike (grown start h) (old-grown start h) k (fields-kept start h) off ∙ sym (old-accepts start h k all) in
+    let after : steps (tick (grown start h) k .state) rest ≡ old-steps (tick (grown start h) k .state) rest = steps-alike (tick (grown start h) k .state) rest (rw (grown-accepts start h k all) (accepted-ticked (grown start h) k)) in
+    rw (sym alike) (ap (λ (l : List NightStep). record { ticked = k; given = outputs-or-number (tick (grown start h) k .answer); box = tick (grown start h) k .state } ∷ l) after)
+
+same-from-a-stop : SameFromAStop
+same-from-a-stop start before k rest all off =
+    let (g, a, new, old) = reached start [] before tt in
+    rw (new, old) (stopped start g k rest (subst (λ (last : OptionalTime). AllYes last k) (ap (λ (b : AirBox). b .«last_time») new ∙ grown-last start g) all) off)
+
+pub quiet-start : QuietStart
+quiet-start = record { one-place = one-place; plain-untouched = plain-untouched; every-night = every-night; same-from-a-stop = same-from-a-stop }

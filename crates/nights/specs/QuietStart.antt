@@ -1,0 +1,233 @@
+-- Document 02, N4: under the quiet start the fan's arming delay starts as in a plain start. What moves by that, and what does not.
+-- The method `AirBox::tick` is proved to return `tick`, by which every night here is run; beside it stands the box of document 01.
+use mathlib.Core.Path.{_≡_}
+use mathlib.Core.Logic.{_⊎_, inl, inr}
+use mathlib.Core.List.{List, [], _∷_}
+use Prim.Native.Nat.{ℕ}
+use mathlib.Core.Bool.{Bool, false, not, _&&_}
+use lib.IntN.{pos}
+use lib.Ieee.{Float}
+use Rattle.f64_helpers.specs.F64.{_⊗_, decimal, if_then_else_}
+use Rattle.f64_helpers.specs.Integers.{_==ᶻ_}
+use Rattle.cdl_recurrences.specs.CdlRecurrences.{greater-hysteretic, hysteresis, less-hysteretic}
+use Rattle.cdl_recurrences.specs.DeadBand.{Related}
+use Rattle.cdl_recurrences.specs.declared.OptionalTime.the-variants.{At}
+use Rattle.cooling_only_controller_timing.specs.Timing.{true-delay}
+use Rattle.cooling_only_controller_airflow.specs.Airflow.{DESIGN_COOLING_MAXIMUM_FLOW, FLOW_HYSTERESIS, DAMPER_POSITION_HYSTERESIS, alarms}
+use Rattle.cooling_only_controller_airflow.specs.declared.AlarmInput.{AlarmInput}
+use Rattle.cooling_only_controller_airflow.specs.declared.AlarmsState.{AlarmsState}
+use Rattle.cooling_only_controller_airflow.specs.declared.AlarmsStep.{AlarmsStep}
+use Rattle.cooling_only_controller.specs.Controller.{controller-output}
+use Rattle.cooling_only_controller.specs.declared.ControllerInput.{ControllerInput}
+use Rattle.cooling_only_controller.specs.declared.ControllerOutput.{ControllerOutput}
+use Rattle.cooling_only_controller.specs.declared.ControllerState.{ControllerState}
+use Rattle.cooling_only_controller.specs.declared.ControllerStep.{ControllerStep}
+use Rattle.air_box.specs.AirBox.{delay-on-init, questions, fresh-box, tick, outputs-or-number}
+use Rattle.air_box.specs.Demand1.{AllYes}
+use Rattle.air_box.specs.declared.Tick.{Tick}
+use Rattle.air_box.specs.declared.Start.{Start}
+use Rattle.air_box.specs.declared.Start.the-variants.{Plain}
+use Rattle.air_box.specs.declared.AirBox.{AirBox}
+use Rattle.air_box.specs.declared.AirBoxStep.{AirBoxStep}
+use Rattle.air_box.specs.declared.Answer.the-variants.{Accepted, Refused}
+use Rattle.air_box.specs.declared.Verdict.{Verdict}
+use Rattle.air_box.specs.declared.Verdict.the-variants.{Accept, Refuse}
+use Rattle.nights.specs.Nights.{NightStep, steps, night-of, fan}
+
+-- ---- the box of document 01
+
+-- The alarms stage, `alarms` of Airflow.antt, for any delay_on_init of the arming delay: `arming`.
+unfoldable pub alarms-armed : Bool → AlarmsState → Float → AlarmInput → Bool → AlarmsStep
+alarms-armed arming s t input delay-on-init =
+    let occupied = input .«operation_mode» ==ᶻ 1 in
+    let fan-armed = true-delay (s .«fan_armed») t (input .«supply_fan_status») (decimal 1800 1) arming in
+    let setpoint-nonzero = hysteresis (input .«active_airflow_setpoint») (decimal 5 1000) (decimal 1 100) (s .«setpoint_nonzero») in
+    let setpoint-on = true-delay (s .«setpoint_on») t setpoint-nonzero (decimal 300 1) delay-on-init in
+    let low-half = less-hysteretic (input .«discharge_airflow») (decimal 5 10 ⊗ input .«active_airflow_setpoint»)
+    FLOW_HYSTERESIS (s .«low_half») in
+    let low-seventy = greater-hysteretic (decimal 7 10 ⊗ input .«active_airflow_setpoint») (input .«discharge_airflow»)
+    FLOW_HYSTERESIS (s .«low_seventy») in
+    let low-half-held = true-delay (s .«low_half_delay») t (low-half && fan-armed .output) (decimal 300 1) delay-on-init in
+    let low-seventy-held = true-delay (s .«low_seventy_delay») t (low-seventy && fan-armed .output) (decimal 300 1) delay-on-init in
+    let level-two = low-half-held .output && setpoint-on .output && occupied in
+    let level-three = low-seventy-held .output && setpoint-on .output && occupied in
+    let low-airflow = if level-two then pos 2 else if level-three then pos 3 else pos 0 in
+    let flow-high = greater-hysteretic (input .«discharge_airflow») (decimal 1 10 ⊗ DESIGN_COOLING_MAXIMUM_FLOW)
+    FLOW_HYSTERESIS (s .«flow_high») in
+    let sensor-held = true-delay (s .«sensor_delay») t (flow-high && not (input .«supply_fan_status»)) (decimal 600 1) delay-on-init in
+    let airflow-sensor = if sensor-held .output && occupied then pos 3 else pos 0 in
+    let damper-closed = less-hysteretic (input .«damper_position») DAMPER_POSITION_HYSTERESIS
+    (decimal 5 10 ⊗ DAMPER_POSITION_HYSTERESIS) (s .«damper_closed») in
+    let leak-held = true-delay (s .«leak_delay») t (input .«supply_fan_status» && damper-closed && flow-high)
+    (decimal 600 1) delay-on-init in
+    record {
+      state = record {
+        «fan_armed» = fan-armed .state;
+        «setpoint_nonzero» = setpoint-nonzero;
+        «setpoint_on» = setpoint-on .state;
+        «low_half» = low-half;
+        «low_seventy» = low-seventy;
+        «low_half_delay» = low-half-held .state;
+        «low_seventy_delay» = low-seventy-held .state;
+        «flow_high» = flow-high;
+        «sensor_delay» = sensor-held .state;
+        «damper_closed» = damper-closed;
+        «leak_delay» = leak-held .state;
+      };
+      output = record {
+        «low_airflow» = low-airflow;
+        «airflow_sensor» = airflow-sensor;
+        «leaking_damper» = if leak-held .output then pos 4 else pos 0;
+      };
+    }
+
+-- as it was: the arming delay runs with the delay_on_init of the others
+abbrev pub old-alarms : AlarmsState → Float → AlarmInput → Bool → AlarmsStep
+old-alarms s t input delay-on-init = alarms-armed delay-on-init s t input delay-on-init
+
+-- The controller with another alarms stage, given. That stage is the last: what it gives is in the outputs and the state alone.
+abbrev pub controller-with : (AlarmsState → Float → AlarmInput → Bool → AlarmsStep)
+    → ControllerState → Float → ControllerInput → Bool → ControllerStep
+controller-with stage s t input delay-on-init =
+    let before = controller-output s t input delay-on-init in
+    let alarms = stage (s .alarms) t record {
+      «discharge_airflow» = input .«discharge_airflow»;
+      «active_airflow_setpoint» = before .output .«airflow_setpoint»;
+      «supply_fan_status» = input .«supply_fan_status»;
+      «operation_mode» = input .«operating_mode»;
+      «damper_position» = before .output .«damper_command»;
+    } delay-on-init in
+    record {
+      state = record {
+        «time_suppression» = before .state .«time_suppression»;
+        «control_loops» = before .state .«control_loops»;
+        setpoints = before .state .setpoints;
+        «zone_states» = before .state .«zone_states»;
+        dampers = before .state .dampers;
+        «system_requests» = before .state .«system_requests»;
+        alarms = alarms .state;
+      };
+      output = record {
+        «airflow_setpoint» = before .output .«airflow_setpoint»;
+        «damper_command» = before .output .«damper_command»;
+        «adjusted_population_flow» = before .output .«adjusted_population_flow»;
+        «adjusted_area_flow» = before .output .«adjusted_area_flow»;
+        «minimum_outdoor_airflow» = before .output .«minimum_outdoor_airflow»;
+        «zone_temperature_reset_request» = before .output .«zone_temperature_reset_request»;
+        «zone_pressure_reset_request» = before .output .«zone_pressure_reset_request»;
+        «low_airflow_alarm» = alarms .output .«low_airflow»;
+        «airflow_sensor_alarm» = alarms .output .«airflow_sensor»;
+        «leaking_damper_alarm» = alarms .output .«leaking_damper»;
+      };
+    }
+
+-- the box, as in AirBox.antt, with that controller
+unfoldable pub old-accepted-tick : AirBox → Tick → AirBoxStep
+old-accepted-tick box k =
+    let step = controller-with old-alarms (box .state) (k .t) (k .input) (delay-on-init (box .start)) in
+    record {
+      state = record { state = step .state; «last_time» = At (k .t); start = box .start };
+      answer = Accepted (step .output);
+    }
+
+abbrev pub old-decided : Verdict → AirBox → Tick → AirBoxStep
+old-decided Accept box k = old-accepted-tick box k
+old-decided (Refuse reason) box k = record { state = box; answer = Refused reason }
+
+unfoldable pub old-tick : AirBox → Tick → AirBoxStep
+old-tick box k = old-decided (questions (box .«last_time») k) box k
+
+abbrev pub old-steps : AirBox → List Tick → List NightStep
+old-steps box [] = []
+old-steps box (k ∷ ks) =
+    record { ticked = k; given = outputs-or-number (old-tick box k .answer); box = old-tick box k .state }
+    ∷ old-steps (old-tick box k .state) ks
+
+-- ---- the definition changed in one place
+
+-- `alarms` is the old text with false in the arming delay, and `controller-with` puts that stage where the controller has it.
+pub record OnePlace : Type 0 where
+  pub stage : (s : AlarmsState) (t : Float) (input : AlarmInput) (delay-on-init : Bool)
+      → alarms s t input delay-on-init ≡ alarms-armed false s t input delay-on-init
+  pub controller : (s : ControllerState) (t : Float) (input : ControllerInput) (delay-on-init : Bool)
+      → controller-output s t input delay-on-init ≡ controller-with alarms s t input delay-on-init
+
+-- ---- a plain start is untouched: every tick, whatever the box holds
+
+abbrev pub PlainUntouched : Type 0
+PlainUntouched = (box : AirBox) (k : Tick) → box .start ≡ Plain → tick box k ≡ old-tick box k
+
+-- ---- every night, from either start, tick by tick
+
+-- nine of the ten outputs are the old ones
+pub record NineOutputs (new old : ControllerOutput) : Type 0 where
+  pub airflow-setpoint : new .«airflow_setpoint» ≡ old .«airflow_setpoint»
+  pub damper-command : new .«damper_command» ≡ old .«damper_command»
+  pub adjusted-population-flow : new .«adjusted_population_flow» ≡ old .«adjusted_population_flow»
+  pub adjusted-area-flow : new .«adjusted_area_flow» ≡ old .«adjusted_area_flow»
+  pub minimum-outdoor-airflow : new .«minimum_outdoor_airflow» ≡ old .«minimum_outdoor_airflow»
+  pub temperature-request : new .«zone_temperature_reset_request» ≡ old .«zone_temperature_reset_request»
+  pub pressure-request : new .«zone_pressure_reset_request» ≡ old .«zone_pressure_reset_request»
+  pub airflow-sensor-alarm : new .«airflow_sensor_alarm» ≡ old .«airflow_sensor_alarm»
+  pub leaking-damper-alarm : new .«leaking_damper_alarm» ≡ old .«leaking_damper_alarm»
+
+-- The tenth comes earlier, never later: where the old low airflow alarm stands, at 2 or 3, the new one stands at the same level.
+abbrev pub NeverLater : ControllerOutput → ControllerOutput → Type 0
+NeverLater new old = (old .«low_airflow_alarm» ≡ pos 0) ⊎ (new .«low_airflow_alarm» ≡ old .«low_airflow_alarm»)
+
+-- a tick gets its outputs from both, or the same number
+abbrev pub SameGiven : ControllerOutput ⊎ ℕ → ControllerOutput ⊎ ℕ → Type 0
+SameGiven (inl new) (inl old) = NineOutputs new old × NeverLater new old
+SameGiven (inl new) (inr number) = ⊥
+SameGiven (inr number) (inl old) = ⊥
+SameGiven (inr number) (inr old-number) = number ≡ old-number
+
+-- the boxes hold the same in every field but the arming delay and the two low-flow delays
+pub record SameFields (new old : AirBox) : Type 0 where
+  pub time-suppression : new .state .«time_suppression» ≡ old .state .«time_suppression»
+  pub control-loops : new .state .«control_loops» ≡ old .state .«control_loops»
+  pub setpoints : new .state .setpoints ≡ old .state .setpoints
+  pub zone-states : new .state .«zone_states» ≡ old .state .«zone_states»
+  pub dampers : new .state .dampers ≡ old .state .dampers
+  pub system-requests : new .state .«system_requests» ≡ old .state .«system_requests»
+  pub setpoint-nonzero : new .state .alarms .«setpoint_nonzero» ≡ old .state .alarms .«setpoint_nonzero»
+  pub setpoint-on : new .state .alarms .«setpoint_on» ≡ old .state .alarms .«setpoint_on»
+  pub low-half : new .state .alarms .«low_half» ≡ old .state .alarms .«low_half»
+  pub low-seventy : new .state .alarms .«low_seventy» ≡ old .state .alarms .«low_seventy»
+  pub flow-high : new .state .alarms .«flow_high» ≡ old .state .alarms .«flow_high»
+  pub sensor-delay : new .state .alarms .«sensor_delay» ≡ old .state .alarms .«sensor_delay»
+  pub damper-closed : new .state .alarms .«damper_closed» ≡ old .state .alarms .«damper_closed»
+  pub leak-delay : new .state .alarms .«leak_delay» ≡ old .state .alarms .«leak_delay»
+  pub last-time : new .«last_time» ≡ old .«last_time»
+  pub start : new .start ≡ old .start
+
+pub record SameButLowAirflow (new old : NightStep) : Type 0 where
+  pub ticked : new .ticked ≡ old .ticked
+  pub given : SameGiven (new .given) (old .given)
+  pub fields : SameFields (new .box) (old .box)
+
+abbrev pub EveryNight : Type 0
+EveryNight =
+    (start : Start) (night : List Tick) → Related SameButLowAirflow (night-of start night) (old-steps (fresh-box start) night)
+
+-- ---- from the fan's first stop on everything is the old: all ten outputs and every field
+
+-- the box after these ticks
+abbrev pub box-after : (AirBox → Tick → AirBoxStep) → AirBox → List Tick → AirBox
+box-after ticked box [] = box
+box-after ticked box (k ∷ ks) = box-after ticked (ticked box k .state) ks
+
+-- The night comes to an accepted tick k with the fan off, after the ticks `before`. From k on nothing differs.
+abbrev pub SameFromAStop : Type 0
+SameFromAStop =
+    (start : Start) (before : List Tick) (k : Tick) (rest : List Tick)
+    → let new = box-after tick (fresh-box start) before in
+    let old = box-after old-tick (fresh-box start) before in
+    AllYes (new .«last_time») k → fan k ≡ false → steps new (k ∷ rest) ≡ old-steps old (k ∷ rest)
+
+-- ---- N4
+pub record QuietStart : Type 0 where
+  pub one-place : OnePlace
+  pub plain-untouched : PlainUntouched
+  pub every-night : EveryNight
+  pub same-from-a-stop : SameFromAStop
