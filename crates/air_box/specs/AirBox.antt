@@ -97,7 +97,8 @@ questions last k =
 
 -- ---- the box
 
--- Document 01, 'Quiet start': the nine true delays of system requests and alarms run with delay_on_init true.
+-- Document 01, 'Quiet start', as document 02, N4 has it: eight true delays run with delay_on_init true, the three of system requests and
+-- all of alarms but the fan's arming.
 abbrev pub delay-on-init : Start → Bool
 delay-on-init Plain = false
 delay-on-init Quiet = true

@@ -13,7 +13,7 @@ use Rattle.air_box.specs.Demand1.{AllYes}
 use Rattle.air_box.specs.declared.Tick.{Tick}
 use Rattle.air_box.specs.declared.AirBox.{AirBox}
 
--- the controller's step for this tick, from its state in the box; the start choice decides delay_on_init in the nine calls
+-- the controller's step for this tick, from its state in the box; the start choice decides delay_on_init in eight calls
 abbrev pub controller-step-of : AirBox → Tick → ControllerStep
 controller-step-of box k = controller-output (box .state) (k .t) (k .input) (delay-on-init (box .start))
 

@@ -71,7 +71,7 @@ impl Refusal {
 }
 
 impl Start {
-    // Whether the true delays of system requests and alarms run with delay_on_init.
+    // Whether the true delays of system requests and alarms, all but the fan's arming, run with delay_on_init.
     pub fn delay_on_init(self) -> bool
         ensures { λ r. ⌜ r ≡ AirBoxes.delay-on-init self ⌝ }
     {

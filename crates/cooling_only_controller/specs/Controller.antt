@@ -28,7 +28,7 @@ fresh-controller =
     }
 
 -- Rust `ControllerState::output`; G36.TerminalUnits.CoolingOnly.Controller
--- `delay-on-init` is that of the nine true delays of system requests and alarms; in the Rust it is false.
+-- `delay-on-init` is that of eight true delays: the three of system requests, and all of alarms but the fan's arming. In the Rust it is false.
 -- In `let setpoints = setpoints ..` and the like the name on the right is the stage, and the one on the left its step, as in the Rust.
 unfoldable pub controller-output : ControllerState → Float → ControllerInput → Bool → ControllerStep
 controller-output s t input delay-on-init =

@@ -104,7 +104,7 @@ impl ControllerState {
         }
     }
 
-    // `delay_on_init` is that of the nine true delays of system requests and alarms.
+    // `delay_on_init` is that of eight true delays: the three of system requests, and all of alarms but the fan's arming.
     pub fn output(self, t: f64, input: ControllerInput, delay_on_init: bool) -> ControllerStep
         ensures { λ r. ⌜ r ≡ Controller.controller-output self t input «delay_on_init» ⌝ }
     {

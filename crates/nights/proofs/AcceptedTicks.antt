@@ -12,9 +12,10 @@ use lib.Ieee.Fits.{and-l, and-r}
 use Rattle.f64_helpers.specs.F64.{_≤ᶠ_, decimal, zero}
 use Rattle.f64_helpers.specs.Helpers.{is-whole}
 use Rattle.f64_helpers.specs.Seconds.{Whole, seconds, IsTime}
-use Rattle.f64_helpers.proofs.WholeSeconds.{round-to, le-whole}
+use Rattle.f64_helpers.proofs.WholeSeconds.{round-to, le-whole, Reach}
 use Rattle.cdl_recurrences.specs.declared.OptionalTime.{OptionalTime}
 use Rattle.cdl_recurrences.specs.declared.OptionalTime.the-variants.{At}
+use Rattle.cooling_only_controller_timing.proofs.TrueDelayLaw.{whole-reached}
 use Rattle.air_box.specs.AirBox.{within}
 use Rattle.air_box.specs.Demand1.{AllYes}
 use Rattle.air_box.specs.declared.Tick.{Tick}
@@ -24,6 +25,9 @@ use Rattle.nights.proofs.Histories.{newest-time}
 -- ---- a time that questions 1 and 2 let pass
 pub decimal-whole : (n : ℕ) → n ≤ 2 ^ 53 → Whole (decimal n 1) n
 decimal-whole n l = round-to binary64 false n 1 n (zero-lt-suc 0) l (sym (mul-one n)) (λ q. absurd q)
+
+pub decimal-reached : (n : ℕ) → n ≤ 2 ^ 53 → Reach (decimal n 1) n
+decimal-reached n l = whole-reached (decimal n 1) n (decimal-whole n l)
 
 -- a negative number of 0 or more is 0
 zero-if-negative : (m : ℕ) (e : ℤ) → T (zero ≤ᶠ fin true m e) → m * up e ≡ 0

@@ -1,4 +1,4 @@
--- A true delay whose input is a condition over the accepted ticks: its output is true exactly if the condition has held for the delay. For any condition, any delay and both values of `delay-on-init`. Beside it the law of two histories. Assumes nothing.
+-- A true delay whose input is a condition over the accepted ticks: its output is true exactly if the condition has held for the delay. For any condition, any delay and both values of `delay-on-init`. Beside it the laws of three inputs over one history and of one input over two. Assumes nothing.
 use mathlib.Core.Path.{_≡_, refl, sym, subst}
 use mathlib.Core.Logic.{_↔_, _⊎_, inl, inr, ⊎-elim, Iff·trans}
 use mathlib.Core.List.{List, [], _∷_, _++_, append-assoc}
@@ -29,6 +29,28 @@ samples-timed input (k ∷ h) a = (accepted-time (newest-time h) k (a .0), not-b
     not-before : (h : List Tick) → AllAccepted (k ∷ h) → NotBefore (k .t) (samples input h)
     not-before [] a = tt
     not-before (j ∷ h) a = accepted-not-before j k (accepted-time (newest-time h) j (a .1 .0)) (a .0)
+
+-- ---- one history
+module _ (delay-time : Float) (length : ℕ) (reach : Reach delay-time length) (delay-on-init : Bool) where
+  abbrev held-after : (List Tick → Bool) → List Tick → Bool
+  held-after input h = true-delay-after delay-time delay-on-init (samples input h) .held
+
+  abbrev Stood : (List Tick → Bool) → ℕ → List Tick → Type 0
+  Stood input now h = TrueSince length delay-on-init now (samples input h)
+
+  pub held-since-law : (input : List Tick → Bool) (h : List Tick) (k : Tick) → AllAccepted (k ∷ h) → T (held-after input (k ∷ h)) ↔ Stood input (seconds (k .t)) (k ∷ h)
+  held-since-law input h k a = true-since-law delay-time length reach delay-on-init (record { time = k .t; input = input (k ∷ h) }) (samples input h) (samples-timed input (k ∷ h) a)
+
+  -- Three inputs, of which c is true where both a and b are: where the delays of a and of b give true, so does that of c.
+  module _ (a b c : List Tick → Bool) (both : (h : List Tick) (k : Tick) → AllAccepted (k ∷ h) → T (a (k ∷ h)) → T (b (k ∷ h)) → T (c (k ∷ h))) where
+    stood-by-both : (now : ℕ) (h : List Tick) → AllAccepted h → Stood a now h → Stood b now h → Stood c now h
+    stood-by-both now [] x o p = o
+    stood-by-both now (k ∷ h) x o p =
+        (both h k x (o .0) (p .0), ⊎-elim (λ l. inl l) (λ r. ⊎-elim (λ l. inl l) (λ q. inr (stood-by-both now h (x .1) r q)) (p .1)) (o .1))
+
+    pub held-by-both : (h : List Tick) (k : Tick) → AllAccepted (k ∷ h) → T (held-after a (k ∷ h)) → T (held-after b (k ∷ h)) → T (held-after c (k ∷ h))
+    held-by-both h k x o p =
+        held-since-law c h k x .1 (stood-by-both (seconds (k .t)) (k ∷ h) x (held-since-law a h k x .0 o) (held-since-law b h k x .0 p))
 
 -- ---- one history: `input` computes the condition `Holds`
 module _ (input : List Tick → Bool) (Holds : List Tick → Tick → Type 0) (means : (h : List Tick) (k : Tick) → T (input (k ∷ h)) ↔ Holds (in-order h) k) (length : ℕ) (delay-on-init : Bool) where
@@ -63,7 +85,7 @@ module _ (input : List Tick → Bool) (Holds : List Tick → Tick → Type 0) (m
   pub held-for-law : (delay-time : Float) → Reach delay-time length → (h : List Tick) (k : Tick) → AllAccepted (k ∷ h)
       → T (true-delay-after delay-time delay-on-init (samples input (k ∷ h)) .held) ↔ HeldFor Holds length delay-on-init (in-order (k ∷ h)) k
   held-for-law delay-time reach h k a =
-      Iff·trans (true-since-law delay-time length reach delay-on-init (record { time = k .t; input = input (k ∷ h) }) (samples input h) (samples-timed input (k ∷ h) a)) (since-law k h k)
+      Iff·trans (held-since-law delay-time length reach delay-on-init input h k a) (since-law k h k)
 
 -- ---- two histories of accepted ticks, at equal times, tick by tick in the relation R, by which the condition of the first carries over to the second
 module _ (input : List Tick → Bool) (R : Tick → Tick → Type 0) (same-seconds : (j k : Tick) → IsTime (j .t) → IsTime (k .t) → R j k → seconds (j .t) ≡ seconds (k .t))

@@ -1,8 +1,7 @@
--- The low airflow alarm after a history of accepted ticks, for either delay_on_init of the fan's arming: its memories are those of three true delays over that history. A box whose fan arms earlier shows it no later. Assumes nothing.
-use mathlib.Core.Path.{_≡_, refl, sym, subst}
-use mathlib.Core.Logic.{_↔_, _⊎_, inl, inr, ⊎-elim}
+-- The low airflow alarm after a history of accepted ticks, for either delay_on_init of the fan's arming: it is told by three true delays over that history. A box whose fan is armed earlier shows it no later. Assumes nothing.
+use mathlib.Core.Path.{_≡_, refl, subst}
+use mathlib.Core.Logic.{_⊎_, inl, inr}
 use mathlib.Core.List.{List, [], _∷_}
-use Prim.Native.Nat.{ℕ, _^_, _≤_}
 use native.Mathlib.Omega.{arith}
 use mathlib.Core.Bool.{Bool, true, false, _&&_}
 use lib.IntN.{ℤ, pos}
@@ -13,39 +12,18 @@ use Rattle.f64_helpers.specs.F64.{decimal, if_then_else_}
 use Rattle.f64_helpers.specs.Integers.{_==ᶻ_}
 use Rattle.f64_helpers.specs.Seconds.{seconds}
 use Rattle.f64_helpers.proofs.Tests.{and-false}
-use Rattle.f64_helpers.proofs.WholeSeconds.{Reach}
 use Rattle.cooling_only_controller_timing.specs.Timing.{true-delay, fresh-true-delay}
-use Rattle.cooling_only_controller_timing.specs.History.{Sample, true-delay-after}
+use Rattle.cooling_only_controller_timing.specs.History.{true-delay-after}
 use Rattle.cooling_only_controller_timing.specs.declared.TrueDelayState.{TrueDelayState}
-use Rattle.cooling_only_controller_timing.proofs.TrueDelayLaw.{held-is-output, whole-reached, TrueSince, true-since-law, true-since-without-on-init}
+use Rattle.cooling_only_controller_timing.proofs.TrueDelayLaw.{true-since-without-on-init}
 use Rattle.cooling_only_controller_airflow.specs.Airflow.{fresh-alarms}
 use Rattle.cooling_only_controller_airflow.specs.declared.AlarmInput.{AlarmInput}
 use Rattle.cooling_only_controller_airflow.specs.declared.AlarmsState.{AlarmsState}
 use Rattle.air_box.specs.declared.Tick.{Tick}
 use Rattle.nights.specs.Nights.{fan, mode}
 use Rattle.nights.specs.QuietStart.{alarms-armed}
-use Rattle.nights.proofs.AcceptedTicks.{AllAccepted, decimal-whole}
-use Rattle.nights.proofs.Conditions.{samples, samples-timed}
-
--- ---- a delay's output over a history, as a condition that has stood for long enough
-module _ (delay-time : Float) (length : ℕ) (reach : Reach delay-time length) (delay-on-init : Bool) where
-  abbrev held-after : (List Tick → Bool) → List Tick → Bool
-  held-after input h = true-delay-after delay-time delay-on-init (samples input h) .held
-
-  stood : (input : List Tick → Bool) (h : List Tick) (k : Tick) → AllAccepted (k ∷ h) → T (held-after input (k ∷ h)) ↔ TrueSince length delay-on-init (seconds (k .t)) (samples input (k ∷ h))
-  stood input h k a = true-since-law delay-time length reach delay-on-init _ (samples input h) (samples-timed input (k ∷ h) a)
-
-  -- Where the inputs a and b are true, so is c. Then where the delays of a and b give true, so does that of c.
-  module _ (a b c : List Tick → Bool) (both : (h : List Tick) (k : Tick) → AllAccepted (k ∷ h) → T (a (k ∷ h)) → T (b (k ∷ h)) → T (c (k ∷ h))) where
-    stood-by-both : (now : ℕ) (h : List Tick) → AllAccepted h → TrueSince length delay-on-init now (samples a h) → TrueSince length delay-on-init now (samples b h) → TrueSince length delay-on-init now (samples c h)
-    stood-by-both now [] x o p = o
-    stood-by-both now (k ∷ h) x o p = (
-      both h k x (o .0) (p .0),
-      ⊎-elim (λ l. inl l) (λ r. ⊎-elim (λ l. inl l) (λ q. inr (stood-by-both now h (x .1) r q)) (p .1)) (o .1),
-    )
-
-    held-by-both : (h : List Tick) (k : Tick) → AllAccepted (k ∷ h) → T (held-after a (k ∷ h)) → T (held-after b (k ∷ h)) → T (held-after c (k ∷ h))
-    held-by-both h k x o p = stood c h k x .1 (stood-by-both (seconds (k .t)) (k ∷ h) x (stood a h k x .0 o) (stood b h k x .0 p))
+use Rattle.nights.proofs.AcceptedTicks.{decimal-reached, AllAccepted}
+use Rattle.nights.proofs.Conditions.{samples, held-since-law, held-by-both}
 
 -- ---- the memories of an alarms stage along a history
 
@@ -135,9 +113,6 @@ pub record Agree (new old : AlarmsState) : Type 0 where
   pub low-seventy : new .«low_seventy» ≡ old .«low_seventy»
   pub setpoint-on : new .«setpoint_on» ≡ old .«setpoint_on»
 
-reached : (n : ℕ) → n ≤ 2 ^ 53 → Reach (decimal n 1) n
-reached n l = whole-reached (decimal n 1) n (decimal-whole n l)
-
 module _ (delay-on-init : Bool) (new : AlarmsAlong false delay-on-init) (old : AlarmsAlong delay-on-init delay-on-init) (agree : (h : List Tick) → Agree (new .after h) (old .after h)) where
   abbrev new-low : LowFlow → List Tick → Bool
   new-low = low false delay-on-init new
@@ -148,27 +123,27 @@ module _ (delay-on-init : Bool) (new : AlarmsAlong false delay-on-init) (old : A
   -- the new fan is armed wherever the old is
   armed-if-armed : (h : List Tick) (k : Tick) → AllAccepted (k ∷ h) → T (old .after (k ∷ h) .«fan_armed» .held) → T (new .after (k ∷ h) .«fan_armed» .held)
   armed-if-armed h k x =
-      let reach = reached 1800 (omega arith) in
+      let reach = decimal-reached 1800 (omega arith) in
       rw (armed-kept delay-on-init delay-on-init old (k ∷ h), armed-kept false delay-on-init new (k ∷ h)) (λ t.
-          stood (decimal 1800 1) 1800 reach false fan-on h k x .1
-          (true-since-without-on-init 1800 delay-on-init (seconds (k .t)) (samples fan-on (k ∷ h)) (stood (decimal 1800 1) 1800 reach delay-on-init fan-on h k x .0 t)))
+      held-since-law (decimal 1800 1) 1800 reach false fan-on h k x .1
+      (true-since-without-on-init 1800 delay-on-init (seconds (k .t)) (samples fan-on (k ∷ h)) (held-since-law (decimal 1800 1) 1800 reach delay-on-init fan-on h k x .0 t)))
 
   -- so where an old low flow has been held for long, the new one has
   held-if-held : (x : LowFlow) → ((h : List Tick) → x .memory (new .after h) ≡ x .memory (old .after h)) → (h : List Tick) (k : Tick) → AllAccepted (k ∷ h)
       → T (x .delay (old .after (k ∷ h)) .held) → T (x .delay (new .after (k ∷ h)) .held)
   held-if-held x same h k all =
       rw (delay-kept delay-on-init delay-on-init old x (k ∷ h), delay-kept false delay-on-init new x (k ∷ h)) (λ t.
-          held-by-both (decimal 300 1) 300 (reached 300 (omega arith)) delay-on-init (old-low x) (old-low x) (new-low x)
-          (λ h k all o p. rw (same (k ∷ h)) (and-i (x .memory (old .after (k ∷ h))) _ (and-l (x .memory (old .after (k ∷ h))) _ o) (armed-if-armed h k all (and-r (x .memory (old .after (k ∷ h))) _ o))))
-          h k all t t)
+      held-by-both (decimal 300 1) 300 (decimal-reached 300 (omega arith)) delay-on-init (old-low x) (old-low x) (new-low x)
+      (λ h k all o p. rw (same (k ∷ h)) (and-i (x .memory (old .after (k ∷ h))) _ (and-l (x .memory (old .after (k ∷ h))) _ o) (armed-if-armed h k all (and-r (x .memory (old .after (k ∷ h))) _ o))))
+      h k all t t)
 
   -- Where the old seventy has been held for long, so has the old fan's arming; if the new half has too, the old half has.
   half-by-both : (h : List Tick) (k : Tick) → AllAccepted (k ∷ h) → T (half .delay (new .after (k ∷ h)) .held) → T (seventy .delay (old .after (k ∷ h)) .held) → T (half .delay (old .after (k ∷ h)) .held)
   half-by-both h k all =
       rw (delay-kept false delay-on-init new half (k ∷ h), delay-kept delay-on-init delay-on-init old seventy (k ∷ h), delay-kept delay-on-init delay-on-init old half (k ∷ h)) (λ t u.
-          held-by-both (decimal 300 1) 300 (reached 300 (omega arith)) delay-on-init (new-low half) (old-low seventy) (old-low half)
-          (λ h k all o p. and-i (half .memory (old .after (k ∷ h))) _ (subst T (agree (k ∷ h) .low-half) (and-l (half .memory (new .after (k ∷ h))) _ o)) (and-r (seventy .memory (old .after (k ∷ h))) _ p))
-          h k all t u)
+      held-by-both (decimal 300 1) 300 (decimal-reached 300 (omega arith)) delay-on-init (new-low half) (old-low seventy) (old-low half)
+      (λ h k all o p. and-i (half .memory (old .after (k ∷ h))) _ (subst T (agree (k ∷ h) .low-half) (and-l (half .memory (new .after (k ∷ h))) _ o)) (and-r (seventy .memory (old .after (k ∷ h))) _ p))
+      h k all t u)
 
   -- and the alarm of the old stage is none, or that of the new one is the same
   pub never-later : (h : List Tick) (k : Tick) → AllAccepted (k ∷ h) → (old .level h k ≡ pos 0) ⊎ (new .level h k ≡ old .level h k)

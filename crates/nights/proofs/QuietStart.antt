@@ -1,42 +1,39 @@
--- N4, part 1. Assumes nothing.
+-- N4. The old and the new box differ in the arming delay's first step alone. By the induction along a night both hold the same but for three delays; LowAirflowAlarm.antt has what these give. Assumes nothing.
 use mathlib.Core.Path.{_≡_, refl, sym, ap, _∙_, subst}
 use mathlib.Core.List.{List, [], _∷_}
-use mathlib.Core.Bool.{Bool, true, false}
-use lib.IntN.{ℤ}
-use lib.Ieee.{Float}
+use mathlib.Core.Bool.{false}
+use lib.Ieee.{Float, round, neg, sub, add, mul, lt, le, eq, isNan}
 use Rattle.f64_helpers.specs.F64.{decimal}
+use Rattle.f64_helpers.specs.Helpers.{max}
 use Rattle.f64_helpers.proofs.Tests.{and-false}
-use Rattle.cdl_recurrences.specs.CdlRecurrences.{true-delay-output}
+use Rattle.cdl_recurrences.specs.CdlRecurrences.{true-delay-output, hysteresis, less-hysteretic, greater-hysteretic}
 use Rattle.cdl_recurrences.specs.DeadBand.{Related}
 use Rattle.cdl_recurrences.specs.declared.OptionalTime.{OptionalTime}
 use Rattle.cdl_recurrences.specs.declared.OptionalTime.the-variants.{At}
 use Rattle.cooling_only_controller_timing.specs.Timing.{true-delay}
-use Rattle.cooling_only_controller_timing.specs.declared.TrueDelayState.{TrueDelayState}
 use Rattle.cooling_only_controller_timing.proofs.TrueDelayLaw.{on-init-at-the-first-alone}
-use Rattle.cooling_only_controller_airflow.specs.Airflow.{alarms}
-use Rattle.cooling_only_controller_airflow.specs.declared.AlarmInput.{AlarmInput}
+use Rattle.cooling_only_controller_airflow.specs.Airflow.{damper, alarms}
 use Rattle.cooling_only_controller_airflow.specs.declared.AlarmsState.{AlarmsState}
 use Rattle.cooling_only_controller.specs.Controller.{controller-output}
 use Rattle.cooling_only_controller.specs.declared.ControllerStep.{ControllerStep}
-use Rattle.air_box.proofs.Demands.{questions-accept, questions-refuse, by-verdict}
+use Rattle.air_box.specs.AirBox.{fresh-box, delay-on-init, decided, accepted-tick, tick, questions, outputs-or-number}
 use Rattle.air_box.specs.Demand1.{AllYes, FirstNo}
 use Rattle.air_box.specs.Demand2.{controller-step-of}
-use Rattle.air_box.specs.AirBox.{fresh-box, delay-on-init, decided, accepted-tick, tick, questions, outputs-or-number}
 use Rattle.air_box.specs.declared.Tick.{Tick}
 use Rattle.air_box.specs.declared.AirBox.{AirBox}
 use Rattle.air_box.specs.declared.Start.{Start}
-use Rattle.air_box.specs.declared.Start.the-variants.{Plain}
 use Rattle.air_box.specs.declared.AirBoxStep.{AirBoxStep}
 use Rattle.air_box.specs.declared.Answer.the-variants.{Refused}
 use Rattle.air_box.specs.declared.Refusal.{Refusal}
 use Rattle.air_box.specs.declared.Verdict.{Verdict}
 use Rattle.air_box.specs.declared.Verdict.the-variants.{Accept, Refuse}
-use Rattle.nights.specs.Nights.{NightStep, steps, fan, mode}
+use Rattle.air_box.proofs.Demands.{questions-accept, questions-refuse, by-verdict}
+use Rattle.nights.specs.Nights.{NightStep, steps, fan}
+use Rattle.nights.specs.QuietStart.{alarms-armed, old-alarms, controller-with, old-accepted-tick, old-decided, old-tick, old-steps, box-after, OnePlace, PlainUntouched, NineOutputs, NeverLater, SameFields, SameButLowAirflow, EveryNight, SameFromAStop, BenchCase, QuietStart}
 use Rattle.nights.proofs.Histories.{newest-time}
 use Rattle.nights.proofs.AcceptedTicks.{AllAccepted}
 use Rattle.nights.proofs.Grown.{grown, grown-last, grown-start, grown-accepts, grown-refuses}
 use Rattle.nights.proofs.LowAirflowAlarm.{Taken, AlarmsAlong, never-later}
-use Rattle.nights.specs.QuietStart.{alarms-armed, old-alarms, controller-with, old-accepted-tick, old-decided, old-tick, old-steps, box-after, OnePlace, PlainUntouched, NineOutputs, NeverLater, SameFields, SameButLowAirflow, EveryNight, SameFromAStop, QuietStart}
 
 one-place : OnePlace
 unfolding alarms alarms-armed controller-output
@@ -72,13 +69,19 @@ still-ticked : (v : Verdict) (box : AirBox) (k : Tick) → HasTicked box → Has
 still-ticked Accept box k e = accepted-ticked box k
 still-ticked (Refuse reason) box k e = e
 
+-- two nights go on alike after a tick that is alike
+steps-from : (new old : AirBox) (k : Tick) (rest : List Tick) → tick new k ≡ old-tick old k → steps (tick new k .state) rest ≡ old-steps (tick new k .state) rest
+    → steps new (k ∷ rest) ≡ old-steps old (k ∷ rest)
+steps-from new old k rest alike after =
+    rw (sym alike) (ap (λ (l : List NightStep). record { ticked = k; given = outputs-or-number (tick new k .answer); box = tick new k .state } ∷ l) after)
+
 steps-alike : (box : AirBox) (ks : List Tick) → HasTicked box → steps box ks ≡ old-steps box ks
 unfolding tick
 steps-alike box [] e = refl
 steps-alike box (k ∷ ks) e =
-    let alike = tick-alike box k (on-init-at-the-first-alone _ (k .t) (fan k) (decimal 1800 1) (delay-on-init (box .start)) (e .0) (e .1)) in
-    let rest = steps-alike (tick box k .state) ks (still-ticked (questions (box .«last_time») k) box k e) in
-    rw (sym alike) (ap (λ (l : List NightStep). record { ticked = k; given = outputs-or-number (tick box k .answer); box = tick box k .state } ∷ l) rest)
+    steps-from box box k ks
+    (tick-alike box k (on-init-at-the-first-alone _ (k .t) (fan k) (decimal 1800 1) (delay-on-init (box .start)) (e .0) (e .1)))
+    (steps-alike (tick box k .state) ks (still-ticked (questions (box .«last_time») k) box k e))
 
 -- ---- one accepted tick of two boxes that hold the same but for the three delays
 abbrev with-alarms : AlarmsState → AirBox → AirBox
@@ -100,7 +103,7 @@ with-alarms a box =
 abbrev old-step-of : AirBox → Tick → ControllerStep
 old-step-of box k = controller-with old-alarms (box .state) (k .t) (k .input) (delay-on-init (box .start))
 
--- the old box is the new one with alarms of its own
+-- the old box is the new one with its own alarms
 old-box : (new old : AirBox) → SameFields new old → old ≡ with-alarms (old .state .alarms) new
 old-box new old same =
     rw (
@@ -239,14 +242,15 @@ along-both start h [] a = tt
 along-both start h (k ∷ ks) a =
     by-verdict (newest-time h) k
     (λ all.
-        subst (λ (new : AirBoxStep). Both k ks new (old-tick (old-grown start h) k)) (sym (grown-accepts start h k all))
-        (subst (λ (old : AirBoxStep). Both k ks (accepted-tick (grown start h) k) old) (sym (old-accepts start h k all))
-        (record { ticked = refl; given = (outputs-of _ _ k (fields-kept start h), earlier-or-same start h k (all, a)); fields = fields-kept start (k ∷ h) },
-        along-both start (k ∷ h) ks (all, a))))
+    subst (λ (new : AirBoxStep). Both k ks new (old-tick (old-grown start h) k)) (sym (grown-accepts start h k all))
+    (subst (λ (old : AirBoxStep). Both k ks (accepted-tick (grown start h) k) old) (sym (old-accepts start h k all)) (
+      record { ticked = refl; given = (outputs-of _ _ k (fields-kept start h), earlier-or-same start h k (all, a)); fields = fields-kept start (k ∷ h) },
+      along-both start (k ∷ h) ks (all, a),
+    )))
     (λ reason first.
-        subst (λ (new : AirBoxStep). Both k ks new (old-tick (old-grown start h) k)) (sym (grown-refuses start h k reason first))
-        (subst (λ (old : AirBoxStep). Both k ks (record { state = grown start h; answer = Refused reason }) old) (sym (old-refuses start h k reason first))
-        (record { ticked = refl; given = refl; fields = fields-kept start h }, along-both start h ks a)))
+    subst (λ (new : AirBoxStep). Both k ks new (old-tick (old-grown start h) k)) (sym (grown-refuses start h k reason first))
+    (subst (λ (old : AirBoxStep). Both k ks (record { state = grown start h; answer = Refused reason }) old) (sym (old-refuses start h k reason first))
+    (record { ticked = refl; given = refl; fields = fields-kept start h }, along-both start h ks a)))
 
 every-night : EveryNight
 every-night start night = along-both start [] night tt
@@ -261,23 +265,29 @@ reached start h [] a = (h, a, refl, refl)
 reached start h (k ∷ ks) a =
     by-verdict (newest-time h) k
     (λ all.
-        subst (λ (new : AirBoxStep). Reached start ks (new .state) (old-tick (old-grown start h) k .state)) (sym (grown-accepts start h k all))
-        (subst (λ (old : AirBoxStep). Reached start ks (grown start (k ∷ h)) (old .state)) (sym (old-accepts start h k all)) (reached start (k ∷ h) ks (all, a))))
+    subst (λ (new : AirBoxStep). Reached start ks (new .state) (old-tick (old-grown start h) k .state)) (sym (grown-accepts start h k all))
+    (subst (λ (old : AirBoxStep). Reached start ks (grown start (k ∷ h)) (old .state)) (sym (old-accepts start h k all)) (reached start (k ∷ h) ks (all, a))))
     (λ reason first.
-        subst (λ (new : AirBoxStep). Reached start ks (new .state) (old-tick (old-grown start h) k .state)) (sym (grown-refuses start h k reason first))
-        (subst (λ (old : AirBoxStep). Reached start ks (grown start h) (old .state)) (sym (old-refuses start h k reason first)) (reached start h ks a)))
+    subst (λ (new : AirBoxStep). Reached start ks (new .state) (old-tick (old-grown start h) k .state)) (sym (grown-refuses start h k reason first))
+    (subst (λ (old : AirBoxStep). Reached start ks (grown start h) (old .state)) (sym (old-refuses start h k reason first)) (reached start h ks a)))
 
 stopped : (start : Start) (h : List Tick) (k : Tick) (rest : List Tick) → AllYes (newest-time h) k → fan k ≡ false → steps (grown start h) (k ∷ rest) ≡ old-steps (old-grown start h) (k ∷ rest)
 stopped start h k rest all off =
-    let alike : tick (grown start h) k ≡ old-tick (old-grown start h) k =
-    grown-accepts start h k all ∙ stop-alike (grown start h) (old-grown start h) k (fields-kept start h) off ∙ sym (old-accepts start h k all) in
-    let after : steps (tick (grown start h) k .state) rest ≡ old-steps (tick (grown start h) k .state) rest = steps-alike (tick (grown start h) k .state) rest (rw (grown-accepts start h k all) (accepted-ticked (grown start h) k)) in
-    rw (sym alike) (ap (λ (l : List NightStep). record { ticked = k; given = outputs-or-number (tick (grown start h) k .answer); box = tick (grown start h) k .state } ∷ l) after)
+    let new = grown start h in
+    let old = old-grown start h in
+    steps-from new old k rest
+    (grown-accepts start h k all ∙ stop-alike new old k (fields-kept start h) off ∙ sym (old-accepts start h k all))
+    (steps-alike (tick new k .state) rest (rw (grown-accepts start h k all) (accepted-ticked new k)))
 
 same-from-a-stop : SameFromAStop
 same-from-a-stop start before k rest all off =
     let (g, a, new, old) = reached start [] before tt in
     rw (new, old) (stopped start g k rest (subst (λ (last : OptionalTime). AllYes last k) (ap (λ (b : AirBox). b .«last_time») new ∙ grown-last start g) all) off)
 
+bench-case : BenchCase
+unfolding questions accepted-tick tick controller-output damper alarms old-accepted-tick old-tick alarms-armed
+    true-delay true-delay-output hysteresis less-hysteretic greater-hysteretic max round neg sub add mul lt le eq isNan
+bench-case = record { armed = refl; low = refl; armed-before = refl; low-before = refl }
+
 pub quiet-start : QuietStart
-quiet-start = record { one-place = one-place; plain-untouched = plain-untouched; every-night = every-night; same-from-a-stop = same-from-a-stop }
+quiet-start = record { one-place = one-place; plain-untouched = plain-untouched; every-night = every-night; same-from-a-stop = same-from-a-stop; bench-case = bench-case }

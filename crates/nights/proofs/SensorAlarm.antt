@@ -15,7 +15,7 @@ use Rattle.f64_helpers.proofs.Integers.{equals-means}
 use Rattle.f64_helpers.proofs.WholeSeconds.{Reach}
 use Rattle.cooling_only_controller_timing.specs.History.{true-delay-after}
 use Rattle.cooling_only_controller_timing.specs.declared.TrueDelayState.{TrueDelayState}
-use Rattle.cooling_only_controller_timing.proofs.TrueDelayLaw.{held-is-output, whole-reached}
+use Rattle.cooling_only_controller_timing.proofs.TrueDelayLaw.{held-is-output}
 use Rattle.cooling_only_controller_airflow.specs.Airflow.{alarms}
 use Rattle.cooling_only_controller_airflow.proofs.AlarmsByFan.{level-or-none}
 use Rattle.cooling_only_controller.specs.Controller.{controller-output}
@@ -26,7 +26,7 @@ use Rattle.air_box.specs.declared.Start.{Start}
 use Rattle.nights.specs.Nights.{fan, mode, HighFanOff}
 use Rattle.nights.specs.Demand3.{H}
 use Rattle.nights.proofs.Histories.{in-order}
-use Rattle.nights.proofs.AcceptedTicks.{decimal-whole}
+use Rattle.nights.proofs.AcceptedTicks.{decimal-reached}
 use Rattle.nights.proofs.Grown.{grown, grown-start}
 use Rattle.nights.proofs.FlowHighRule.{high-after, InOrder, high-law}
 use Rattle.nights.proofs.Conditions.{samples}
@@ -45,7 +45,7 @@ high-fan-off-means limit limits h k =
     )
 
 pub delay-reached : Reach (decimal 600 1) 600
-delay-reached = whole-reached (decimal 600 1) 600 (decimal-whole 600 (omega arith))
+delay-reached = decimal-reached 600 (omega arith)
 
 -- ---- the memories
 abbrev pub sensor-delay-after : Start → List Tick → TrueDelayState

@@ -3,15 +3,16 @@
 use mathlib.Core.Path.{_≡_}
 use mathlib.Core.Logic.{_⊎_, inl, inr}
 use mathlib.Core.List.{List, [], _∷_}
-use Prim.Native.Nat.{ℕ}
-use mathlib.Core.Bool.{Bool, false, not, _&&_}
+use Prim.Native.Nat.{ℕ, zero, suc, _+_}
+use mathlib.Core.Bool.{Bool, true, false, not, _&&_}
 use lib.IntN.{pos}
 use lib.Ieee.{Float}
-use Rattle.f64_helpers.specs.F64.{_⊗_, decimal, if_then_else_}
+use Rattle.f64_helpers.specs.F64.{_⊗_, decimal, zero as no-flow, if_then_else_}
 use Rattle.f64_helpers.specs.Integers.{_==ᶻ_}
 use Rattle.cdl_recurrences.specs.CdlRecurrences.{greater-hysteretic, hysteresis, less-hysteretic}
 use Rattle.cdl_recurrences.specs.DeadBand.{Related}
-use Rattle.cdl_recurrences.specs.declared.OptionalTime.the-variants.{At}
+use Rattle.cdl_recurrences.specs.declared.OptionalTime.{OptionalTime}
+use Rattle.cdl_recurrences.specs.declared.OptionalTime.the-variants.{Absent, At}
 use Rattle.cooling_only_controller_timing.specs.Timing.{true-delay}
 use Rattle.cooling_only_controller_airflow.specs.Airflow.{DESIGN_COOLING_MAXIMUM_FLOW, FLOW_HYSTERESIS, DAMPER_POSITION_HYSTERESIS, alarms}
 use Rattle.cooling_only_controller_airflow.specs.declared.AlarmInput.{AlarmInput}
@@ -23,10 +24,11 @@ use Rattle.cooling_only_controller.specs.declared.ControllerOutput.{ControllerO
 use Rattle.cooling_only_controller.specs.declared.ControllerState.{ControllerState}
 use Rattle.cooling_only_controller.specs.declared.ControllerStep.{ControllerStep}
 use Rattle.air_box.specs.AirBox.{delay-on-init, questions, fresh-box, tick, outputs-or-number}
+use Rattle.air_box.specs.BenchTick.{bench-tick}
 use Rattle.air_box.specs.Demand1.{AllYes}
 use Rattle.air_box.specs.declared.Tick.{Tick}
 use Rattle.air_box.specs.declared.Start.{Start}
-use Rattle.air_box.specs.declared.Start.the-variants.{Plain}
+use Rattle.air_box.specs.declared.Start.the-variants.{Plain, Quiet}
 use Rattle.air_box.specs.declared.AirBox.{AirBox}
 use Rattle.air_box.specs.declared.AirBoxStep.{AirBoxStep}
 use Rattle.air_box.specs.declared.Answer.the-variants.{Accepted, Refused}
@@ -225,9 +227,40 @@ SameFromAStop =
     let old = box-after old-tick (fresh-box start) before in
     AllYes (new .«last_time») k → fan k ≡ false → steps new (k ∷ rest) ≡ old-steps old (k ∷ rest)
 
+-- ---- document 02's bench case
+
+-- ticks each 60 seconds, n of them, from the time `from` on: the fan on, airflow override 2, flow 0.0, mode 1
+abbrev pub bench-night : ℕ → ℕ → List Tick
+bench-night zero from = []
+bench-night (suc n) from =
+    record { t = decimal from 1; input = bench-tick no-flow (pos 2) (pos 0) true .input } ∷ bench-night n (from + 60)
+
+-- the time of the first tick at which it holds
+abbrev pub first-time : (NightStep → Bool) → List NightStep → OptionalTime
+first-time holds [] = Absent
+first-time holds (s ∷ rest) = if holds s then At (s .ticked .t) else first-time holds rest
+
+abbrev pub fan-armed : NightStep → Bool
+fan-armed s = s .box .state .alarms .«fan_armed» .held
+
+abbrev pub low-alarm : NightStep → Bool
+low-alarm s = low-of (s .given)
+  where
+    low-of : ControllerOutput ⊎ ℕ → Bool
+    low-of (inl output) = not (output .«low_airflow_alarm» ==ᶻ 0)
+    low-of (inr number) = false
+
+-- armed at 0 and the low alarm at 300; they were at 1800 and 2100
+pub record BenchCase : Type 0 where
+  pub armed : first-time fan-armed (night-of Quiet (bench-night 36 0)) ≡ At (decimal 0 1)
+  pub low : first-time low-alarm (night-of Quiet (bench-night 36 0)) ≡ At (decimal 300 1)
+  pub armed-before : first-time fan-armed (old-steps (fresh-box Quiet) (bench-night 36 0)) ≡ At (decimal 1800 1)
+  pub low-before : first-time low-alarm (old-steps (fresh-box Quiet) (bench-night 36 0)) ≡ At (decimal 2100 1)
+
 -- ---- N4
 pub record QuietStart : Type 0 where
   pub one-place : OnePlace
   pub plain-untouched : PlainUntouched
   pub every-night : EveryNight
   pub same-from-a-stop : SameFromAStop
+  pub bench-case : BenchCase
