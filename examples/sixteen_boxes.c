@@ -1,5 +1,7 @@
-/* Sixteen boxes for an hour, with nothing but air_box.h and the archive: what firmware does with a refusal, and why a real box takes the quiet start.
+/* Sixteen boxes for an hour, with nothing but air_box.h and the archive: what firmware does with a refusal, and what a start shows.
    Three boxes are in trouble. The damper of box 11 is told to close and leaks; the duct of box 5 is blocked; the zone sensor of box 3 fails for ten minutes.
+   All power up occupied, with the fan on and their dampers closed, so the others show low airflow too until theirs have opened: from minute 5 with the
+   quiet start, at once with the plain one. Box 5 alone keeps it. Box 3 shows it once more after it was built afresh.
    Build: gcc -O2 -Iinclude examples/sixteen_boxes.c target/staticlib/libair_box_c.a -o target/sixteen_boxes
    Run:   target/sixteen_boxes          or, to see the other start: target/sixteen_boxes plain */
 #include <errno.h>

@@ -35,10 +35,15 @@
    Until its first accepted tick the outputs are what the caller put there. The desk code does not show refusals: report the number beside it.
 
    Plain or quiet. A real box takes the quiet start. With a plain start a fault that seems to stand at the first tick counts as having stood for long:
-   sixteen healthy boxes that power up in occupied mode with the fan on and their dampers still closed all show code 12 at once. With a quiet start
-   every alarm, and every request above 1, waits out its delay first, and only real faults show. The price: the low airflow alarm is armed once the fan
-   has been on for 30 minutes, and shows after 35 at the earliest. After a fan start that is so with both starts; with a quiet one it is so after
-   power-up too, though the fan may have been on for hours. The plain start is that of the published reference, for comparing with it.
+   in occupied mode a first reading of flow with the fan off shows code 23 at once, and low airflow 12 or 13; in any mode a leak 34. With a quiet start
+   every alarm, and every request above 1, waits out its delay first. Eight delays wait so: of the requests those of temperature 2 and 3, 120 seconds
+   each, and the damper's for pressure 2 and 3, 60; of the alarms the setpoint's and the two low airflows', 300 each, the sensor's and the leak's, 600
+   each. The ninth does not, with either start: the low airflow alarm is armed once the fan has been on for 30 minutes, and a fan that is on at the first
+   tick counts as having been on for that long. So low airflow shows 5 minutes after power-up at the earliest, and 35 minutes after a fan start that the
+   box has seen. The plain start is that of the published reference, for comparing with it.
+   A box that begins with the fan on sets its damper back to about 1 percent and opens it slowly. In occupied mode a sound one may therefore show low
+   airflow, with the quiet start from minute 5 on, until its flow has come up: in examples/sixteen_boxes.c until minute 21. Low airflow right after
+   power-up, or after a box was built afresh, is a fault only if it stays.
 
    Size. Every box has a design minimum of 0.5 and a cooling maximum of 1.5 cubic metres a second. Neither can be set.
 

@@ -1,1 +1,1 @@
-// The claim about whole nights: specs/Demand3.antt states it of the box's own tick, and proofs/ prove it. A box runs no code of this crate.
+// The claims about whole nights: specs/Demand3.antt has demand 3 and specs/QuietStart.antt request N4, both of the box's own tick, and proofs/ prove them. A box runs no code of this crate.

@@ -51,16 +51,21 @@ fn refusals_give_their_reason_and_change_nothing() {
 }
 
 #[test]
-fn quiet_start_waits_with_the_low_alarm() {
-    let first = |mut air_box: AirBox| {
+fn low_alarm_after_power_up_and_after_a_fan_start() {
+    let first = |mut air_box: AirBox, fan_on_from: f64| {
         (0..60).map(|minute| minute as f64 * 60.0).find(|&t| {
             let mut tick = at(t);
             tick.input.discharge_airflow = 0.0;
+            tick.input.supply_fan_status = t >= fan_on_from;
             air_box.tick(&tick).expect("accepted").low_airflow_alarm != 0
         })
     };
-    assert_eq!(first(AirBox::plain()), Some(0.0));
-    assert_eq!(first(AirBox::quiet()), Some(2100.0));
+    // A fan that is on at the first tick is armed there, with either start.
+    assert_eq!(first(AirBox::plain(), 0.0), Some(0.0));
+    assert_eq!(first(AirBox::quiet(), 0.0), Some(300.0));
+    // One that comes on later is armed after 1800 seconds.
+    assert_eq!(first(AirBox::plain(), 60.0), Some(2160.0));
+    assert_eq!(first(AirBox::quiet(), 60.0), Some(2160.0));
 }
 
 #[test]
