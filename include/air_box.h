@@ -38,12 +38,12 @@
    in occupied mode a first reading of flow with the fan off shows code 23 at once, and low airflow 12 or 13; in any mode a leak 34. With a quiet start
    every alarm, and every request above 1, waits out its delay first. Eight delays wait so: of the requests those of temperature 2 and 3, 120 seconds
    each, and the damper's for pressure 2 and 3, 60; of the alarms the setpoint's and the two low airflows', 300 each, the sensor's and the leak's, 600
-   each. The ninth does not, with either start: the low airflow alarm is armed once the fan has been on for 30 minutes, and a fan that is on at the first
-   tick counts as having been on for that long. So low airflow shows 5 minutes after power-up at the earliest, and 35 minutes after a fan start that the
-   box has seen. The plain start is that of the published reference, for comparing with it.
-   A box that begins with the fan on sets its damper back to about 1 percent and opens it slowly. In occupied mode a sound one may therefore show low
-   airflow, with the quiet start from minute 5 on, until its flow has come up: in examples/sixteen_boxes.c until minute 21. Low airflow right after
-   power-up, or after a box was built afresh, is a fault only if it stays.
+   each. One more, the fan's arming, does not: the low airflow alarm is armed once the fan has been on for 30 minutes, and with either start a fan that
+   is on at the first tick counts as having been on for that long. So with a quiet start low airflow shows 5 minutes after power-up at the earliest, and
+   with either start 35 minutes after a fan start that the box has seen. The plain start is that of the published reference, for comparing with it.
+   A fresh box does not know where its damper stood, and with the fan on it takes minutes to bring its flow up. In occupied mode a sound one may therefore
+   show low airflow, with the quiet start from minute 5 on: in examples/sixteen_boxes.c, where all begin without flow, until minute 21. Low airflow right
+   after power-up, or after a box was built afresh, is a fault only if it stays.
 
    Size. Every box has a design minimum of 0.5 and a cooling maximum of 1.5 cubic metres a second. Neither can be set.
 

@@ -1,4 +1,4 @@
-// Bench cases that are run and not proved: document 01's first ticks 130, 190 and 250, every refusal and the quiet start, and document 02's night of a leak with low flow. What it prints is held to the file stdout.
+// Bench cases that are run: document 01's first ticks 130, 190 and 250 and every refusal, and document 02's quiet start with low flow, which is proved too, and night of a leak with low flow. What it prints is held to the file stdout.
 use air_box::AirBox;
 use air_box::AirBoxStep;
 use air_box::Answer;

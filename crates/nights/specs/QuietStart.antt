@@ -1,18 +1,19 @@
 -- Document 02, N4: under the quiet start the fan's arming delay starts as in a plain start. What moves by that, and what does not.
--- The method `AirBox::tick` is proved to return `tick`, by which every night here is run; beside it stands the box of document 01.
+-- The method `AirBox::tick` is proved to return `tick`, by which every night here is run; beside it stands the box as it was before N4.
 use mathlib.Core.Path.{_≡_}
 use mathlib.Core.Logic.{_⊎_, inl, inr}
 use mathlib.Core.List.{List, [], _∷_}
+use mathlib.Core.Option.{Option, none, some}
 use Prim.Native.Nat.{ℕ, zero, suc, _+_}
 use mathlib.Core.Bool.{Bool, true, false, not, _&&_}
 use lib.IntN.{pos}
 use lib.Ieee.{Float}
 use Rattle.f64_helpers.specs.F64.{_⊗_, decimal, zero as no-flow, if_then_else_}
 use Rattle.f64_helpers.specs.Integers.{_==ᶻ_}
+use Rattle.f64_helpers.specs.Seconds.{seconds}
 use Rattle.cdl_recurrences.specs.CdlRecurrences.{greater-hysteretic, hysteresis, less-hysteretic}
 use Rattle.cdl_recurrences.specs.DeadBand.{Related}
-use Rattle.cdl_recurrences.specs.declared.OptionalTime.{OptionalTime}
-use Rattle.cdl_recurrences.specs.declared.OptionalTime.the-variants.{Absent, At}
+use Rattle.cdl_recurrences.specs.declared.OptionalTime.the-variants.{At}
 use Rattle.cooling_only_controller_timing.specs.Timing.{true-delay}
 use Rattle.cooling_only_controller_airflow.specs.Airflow.{DESIGN_COOLING_MAXIMUM_FLOW, FLOW_HYSTERESIS, DAMPER_POSITION_HYSTERESIS, alarms}
 use Rattle.cooling_only_controller_airflow.specs.declared.AlarmInput.{AlarmInput}
@@ -36,7 +37,7 @@ use Rattle.air_box.specs.declared.Verdict.{Verdict}
 use Rattle.air_box.specs.declared.Verdict.the-variants.{Accept, Refuse}
 use Rattle.nights.specs.Nights.{NightStep, steps, night-of, fan}
 
--- ---- the box of document 01
+-- ---- the box before N4
 
 -- The alarms stage, `alarms` of Airflow.antt, for any delay_on_init of the arming delay: `arming`.
 unfoldable pub alarms-armed : Bool → AlarmsState → Float → AlarmInput → Bool → AlarmsStep
@@ -87,7 +88,7 @@ alarms-armed arming s t input delay-on-init =
 abbrev pub old-alarms : AlarmsState → Float → AlarmInput → Bool → AlarmsStep
 old-alarms s t input delay-on-init = alarms-armed delay-on-init s t input delay-on-init
 
--- The controller with another alarms stage, given. That stage is the last: what it gives is in the outputs and the state alone.
+-- The controller with a given alarms stage in place of its own. That stage is the last: what it gives is in the outputs and the state alone.
 abbrev pub controller-with : (AlarmsState → Float → AlarmInput → Bool → AlarmsStep)
     → ControllerState → Float → ControllerInput → Bool → ControllerStep
 controller-with stage s t input delay-on-init =
@@ -236,9 +237,9 @@ bench-night (suc n) from =
     record { t = decimal from 1; input = bench-tick no-flow (pos 2) (pos 0) true .input } ∷ bench-night n (from + 60)
 
 -- the time of the first tick at which it holds
-abbrev pub first-time : (NightStep → Bool) → List NightStep → OptionalTime
-first-time holds [] = Absent
-first-time holds (s ∷ rest) = if holds s then At (s .ticked .t) else first-time holds rest
+abbrev pub first-time : (NightStep → Bool) → List NightStep → Option ℕ
+first-time holds [] = none
+first-time holds (s ∷ rest) = if holds s then some (seconds (s .ticked .t)) else first-time holds rest
 
 abbrev pub fan-armed : NightStep → Bool
 fan-armed s = s .box .state .alarms .«fan_armed» .held
@@ -252,10 +253,10 @@ low-alarm s = low-of (s .given)
 
 -- armed at 0 and the low alarm at 300; they were at 1800 and 2100
 pub record BenchCase : Type 0 where
-  pub armed : first-time fan-armed (night-of Quiet (bench-night 36 0)) ≡ At (decimal 0 1)
-  pub low : first-time low-alarm (night-of Quiet (bench-night 36 0)) ≡ At (decimal 300 1)
-  pub armed-before : first-time fan-armed (old-steps (fresh-box Quiet) (bench-night 36 0)) ≡ At (decimal 1800 1)
-  pub low-before : first-time low-alarm (old-steps (fresh-box Quiet) (bench-night 36 0)) ≡ At (decimal 2100 1)
+  pub armed : first-time fan-armed (night-of Quiet (bench-night 36 0)) ≡ some 0
+  pub low : first-time low-alarm (night-of Quiet (bench-night 36 0)) ≡ some 300
+  pub armed-before : first-time fan-armed (old-steps (fresh-box Quiet) (bench-night 36 0)) ≡ some 1800
+  pub low-before : first-time low-alarm (old-steps (fresh-box Quiet) (bench-night 36 0)) ≡ some 2100
 
 -- ---- N4
 pub record QuietStart : Type 0 where

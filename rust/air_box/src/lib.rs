@@ -72,13 +72,14 @@
 //! # Plain or quiet
 //!
 //! A real box takes the quiet start: every alarm, and every request above 1, then waits out its delay before it shows. Eight delays wait so: three of
-//! the requests, and of the alarms those of the setpoint, of the two low airflows, of the sensor and of the leak. The fan's arming does not: a fan that is
-//! on at the first tick counts as having been on for its 30 minutes, with either start, so low airflow shows 5 minutes after power-up at the earliest. With
-//! a plain start a fault that seems to stand at the first tick counts as having stood for long, and shows at once. It is the start of the published
-//! reference, for comparing with it.
+//! the requests, and of the alarms those of the setpoint, of the two low airflows, of the sensor and of the leak. One more, the fan's arming, does not: with
+//! either start a fan that is on at the first tick counts as having been on for the 30 minutes that arm the low airflow alarm. So with a quiet start low
+//! airflow shows 5 minutes after power-up at the earliest, and with either start 35 minutes after a fan start that the box has seen. With a plain start a
+//! fault that seems to stand at the first tick counts as having stood for long, and shows at once. It is the start of the published reference, for
+//! comparing with it.
 //!
-//! A box that begins occupied with the fan on opens its damper slowly, from about 1 percent: a sound one may show low airflow from minute 5 until its flow
-//! has come up. Right after power-up, or after a box was built afresh, low airflow is a fault only if it stays.
+//! A fresh box does not know where its damper stood, and with the fan on it takes minutes to bring its flow up: a sound one that is occupied may show low
+//! airflow from minute 5 on. Right after power-up, or after a box was built afresh, low airflow is a fault only if it stays.
 //!
 //! # What it needs
 //!
