@@ -481,7 +481,7 @@ impl AlarmsState {
     {
         let flow = input.discharge_airflow;
         let setpoint = input.active_airflow_setpoint;
-        // Quiet start or not: a fan that is on at the first tick has usually run for hours.
+        // The same with both starts: a box that restarts mostly finds its fan long on.
         let fan_armed = self.fan_armed
             .output(t, input.supply_fan_status, 1800.0, false);
         let setpoint_nonzero = hysteresis(setpoint, 0.005, 0.01, self.setpoint_nonzero);
