@@ -97,14 +97,10 @@ module _ (d : ℕ) (delay-on-init : Bool) (now : ℕ) where
   true-since-kept (j ∷ g) [] r o = absurd r
   true-since-kept (j ∷ g) (k ∷ h) r o = (r .0 .1 (o .0), ⊎-elim (λ e. inl (omega (arith, r .0 .0))) (λ p. inr (true-since-kept g h (r .1) p)) (o .1))
 
--- what is long enough with delay_on_init is so without it
-pub true-since-without-on-init : (d : ℕ) (delay-on-init : Bool) (now : ℕ) (h : List Sample) → TrueSince d delay-on-init now h → TrueSince d false now h
-true-since-without-on-init d delay-on-init now [] o = tt
-true-since-without-on-init d delay-on-init now (k ∷ h) o = (o .0, ⊎-elim (λ e. inl e) (λ r. inr (true-since-without-on-init d delay-on-init now h r)) (o .1))
-
-pub true-since-later : (d : ℕ) (delay-on-init : Bool) (a b : ℕ) → a ≤ b → (h : List Sample) → TrueSince d delay-on-init a h → TrueSince d delay-on-init b h
-true-since-later d delay-on-init a b l [] o = o
-true-since-later d delay-on-init a b l (k ∷ h) o = (o .0, ⊎-elim (λ e. inl (omega arith)) (λ r. inr (true-since-later d delay-on-init a b l h r)) (o .1))
+-- What is long enough is so at a later time too, and without delay_on_init.
+pub true-since-later : (d : ℕ) (on-init later-on-init : Bool) → (T (not on-init) → T (not later-on-init)) → (a b : ℕ) → a ≤ b → (h : List Sample) → TrueSince d on-init a h → TrueSince d later-on-init b h
+true-since-later d on-init later-on-init f a b l [] o = f o
+true-since-later d on-init later-on-init f a b l (k ∷ h) o = (o .0, ⊎-elim (λ e. inl (omega arith)) (λ r. inr (true-since-later d on-init later-on-init f a b l h r)) (o .1))
 
 -- ---- what holds of the state after a history
 abbrev sample : Float → Bool → Sample
@@ -171,7 +167,7 @@ module _ (delay-time : Float) (d : ℕ) (reach : Reach delay-time d) where
       → RightOutput d delay-on-init (sample p i ∷ h) t true (true-delay-output t true delay-time delay-on-init (At p) i b x)
   unfolding true-delay-output
   running delay-on-init h t p i true x it ip l g =
-      ((λ q. (tt, inr (true-since-later d delay-on-init (seconds p) (seconds t) l (sample p i ∷ h) (g .0 .0 tt))), λ o. tt), λ q r. absurd r)
+      ((λ q. (tt, inr (true-since-later d delay-on-init delay-on-init (λ n. n) (seconds p) (seconds t) l (sample p i ∷ h) (g .0 .0 tt))), λ o. tt), λ q r. absurd r)
   running delay-on-init h t p false false x it ip l g =
       let r = reached zero 0 zero-whole in (
         (λ q. (tt, inl (omega (arith, r .0 q))), λ o. r .1 (⊎-elim (λ e. omega arith) (λ z. absurd (z .0)) (o .1))),

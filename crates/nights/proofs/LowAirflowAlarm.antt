@@ -2,6 +2,7 @@
 use mathlib.Core.Path.{_≡_, refl, subst}
 use mathlib.Core.Logic.{_⊎_, inl, inr}
 use mathlib.Core.List.{List, [], _∷_}
+use native.Mathlib.Nat.{le-refl}
 use native.Mathlib.Omega.{arith}
 use mathlib.Core.Bool.{Bool, true, false, _&&_}
 use lib.IntN.{ℤ, pos}
@@ -15,7 +16,7 @@ use Rattle.f64_helpers.proofs.Tests.{and-false}
 use Rattle.cooling_only_controller_timing.specs.Timing.{true-delay, fresh-true-delay}
 use Rattle.cooling_only_controller_timing.specs.History.{true-delay-after}
 use Rattle.cooling_only_controller_timing.specs.declared.TrueDelayState.{TrueDelayState}
-use Rattle.cooling_only_controller_timing.proofs.TrueDelayLaw.{true-since-without-on-init}
+use Rattle.cooling_only_controller_timing.proofs.TrueDelayLaw.{true-since-later}
 use Rattle.cooling_only_controller_airflow.specs.Airflow.{fresh-alarms}
 use Rattle.cooling_only_controller_airflow.specs.declared.AlarmInput.{AlarmInput}
 use Rattle.cooling_only_controller_airflow.specs.declared.AlarmsState.{AlarmsState}
@@ -126,7 +127,7 @@ module _ (delay-on-init : Bool) (new : AlarmsAlong false delay-on-init) (old : A
       let reach = decimal-reached 1800 (omega arith) in
       rw (armed-kept delay-on-init delay-on-init old (k ∷ h), armed-kept false delay-on-init new (k ∷ h)) (λ t.
       held-since-law (decimal 1800 1) 1800 reach false fan-on h k x .1
-      (true-since-without-on-init 1800 delay-on-init (seconds (k .t)) (samples fan-on (k ∷ h)) (held-since-law (decimal 1800 1) 1800 reach delay-on-init fan-on h k x .0 t)))
+      (true-since-later 1800 delay-on-init false (λ n. tt) (seconds (k .t)) (seconds (k .t)) (le-refl (seconds (k .t))) (samples fan-on (k ∷ h)) (held-since-law (decimal 1800 1) 1800 reach delay-on-init fan-on h k x .0 t)))
 
   -- so where an old low flow has been held for long, the new one has
   held-if-held : (x : LowFlow) → ((h : List Tick) → x .memory (new .after h) ≡ x .memory (old .after h)) → (h : List Tick) (k : Tick) → AllAccepted (k ∷ h)
