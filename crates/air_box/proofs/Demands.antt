@@ -1,4 +1,4 @@
--- Demands 1 and 2, from the order in which `questions` asks. The laws of the questions (`questions-accept`, `questions-refuse`) and of a tick by its verdict (`tick-accepted`, `tick-refused`) serve the claims about nights too. Assumes nothing.
+-- Demands 1 and 2, from the order in which `questions` asks. The laws of the questions (`questions-accept`, `questions-refuse`, `accepted-time`) and of a tick by its verdict (`tick-accepted`, `tick-refused`) serve the claims about nights too. Assumes nothing.
 use mathlib.Core.Path.{_≡_, refl, sym, ap, _∙_, subst}
 use mathlib.Core.Logic.{_↔_, _⊎_, inl, inr}
 use Prim.Native.Nat.{ℕ, _+_, _<_, _≤_}
@@ -6,6 +6,8 @@ use native.Mathlib.Omega.{arith}
 use mathlib.Core.Bool.{Bool, true, false, not, cond}
 use lib.Dec.{T, ltb, eqb, ltb→lt, nltb→le, lit<}
 use lib.Ieee.Bits.{is-true, is-false}
+use Rattle.f64_helpers.specs.Seconds.{IsTime}
+use Rattle.f64_helpers.proofs.Times.{time-of-whole}
 use Rattle.cdl_recurrences.specs.declared.OptionalTime.{OptionalTime}
 use Rattle.cooling_only_controller.specs.declared.ControllerOutput.{ControllerOutput}
 use Rattle.air_box.specs.AirBox.{yes, questions, decided, accepted-tick, tick, given-for, refusal-number, outputs-or-number}
@@ -165,6 +167,10 @@ pub questions-accept : (last : OptionalTime) (k : Tick) → (questions last k �
 questions-accept last k =
     let answers : Refusal → Bool = λ reason. yes reason last k in
     (λ e. accept→all answers (sym (questions-are last k) ∙ e), λ all. questions-are last k ∙ all→accept answers all)
+
+-- questions 1 and 2
+pub accepted-time : (last : OptionalTime) (k : Tick) → AllYes last k → IsTime (k .t)
+accepted-time last k all = time-of-whole (k .t) (all NotWholeSeconds) (all TimeOutOfRange)
 
 pub questions-refuse : (last : OptionalTime) (k : Tick) (reason : Refusal) → (questions last k ≡ Refuse reason) ↔ FirstNo reason last k
 questions-refuse last k reason =

@@ -4,18 +4,19 @@ use Prim.Native.Nat.{ℕ, _+_, _-_, _*_, _/_, _^_, _≤_, _<_}
 use native.Mathlib.Nat.{le-trans, mul-one, add-mul, mul-mul-mul-comm, mul-pos, zero-lt-suc, div-le-self, div-mul-le-self, add-mul-div-right, le-div-iff-mul-le, le-refl, le-antisymm, eq-zero-or-pos}
 use native.Mathlib.Omega.{arith}
 use mathlib.Core.Logic.{_⊎_, inl, inr}
-use mathlib.Core.Bool.{Bool, true, false}
+use mathlib.Core.Bool.{Bool, true, false, not}
 use lib.IntN.{ℤ, pos, negsuc}
 use lib.Dec.{T, ltb, ltb→lt, lt→ltb, lit≤}
-use lib.Ieee.{Float, nan, inf, fin, binary64, unlike, up, down, round, add, sub, div, fits}
+use lib.Ieee.{Float, nan, inf, fin, binary64, unlike, up, down, round, add, sub, div, neg, fits}
 use lib.Ieee.Fits.{down-pos, div-fits}
 use lib.Ieee.Exact.{HasValue}
 use lib.Ieee.Back.{whole-unique}
 use lib.Ieee.Scale.{round-same}
-use Rattle.f64_helpers.specs.F64.{_⊕_, _⊖_, _⊗_, _⊘_, decimal, zero as zeroᶠ}
+use Rattle.f64_helpers.specs.F64.{_⊕_, _⊖_, _⊗_, _⊘_, _>ᶠ_, decimal, zero as zeroᶠ, if_then_else_}
 use Rattle.f64_helpers.specs.Helpers.{floor, ceil, negative}
-use Rattle.f64_helpers.specs.Seconds.{Whole}
+use Rattle.f64_helpers.specs.Seconds.{Whole, seconds, is-time}
 use Rattle.f64_helpers.proofs.WholeSeconds.{zero-whole, lt-whole, sub-whole, same-test}
+use Rattle.f64_helpers.proofs.Times.{is-time-of, is-time-means}
 use Rattle.f64_helpers.proofs.Quotients.{round-zero, mul-is, mul-whole, div-exact, floor-rounded, floor-quotient, as-i64-whole}
 use Rattle.cdl_recurrences.specs.CdlRecurrences.{buildings-round-six, initial-sample-time, sample-index, sample-due}
 
@@ -95,15 +96,40 @@ round-six-above x n v P N t =
     round-six-is x n v P
     ∙ whole-unique binary64 (y ⊘ million) x false n (div-fits binary64 y million) t (positive-value (y ⊘ million) n (round-six-positive x n v P N) P) (positive-value x n v P)
 
+-- For a time nothing is rounded: it comes back, and a zero of either sign gives -0.0.
+pub round-six-time : (x : Float) → T (fits binary64 x) → T (is-time x) → buildings-round-six x ≡ (if x >ᶠ zeroᶠ then x else neg zeroᶠ)
+unfolding neg
+round-six-time x t h = go (seconds x) (is-time-means x .0 h .0) (is-time-means x .0 h .1) (eq-zero-or-pos (seconds x))
+  where
+    go : (n : ℕ) → Whole x n → n ≤ 2147483648 → (n ≡ 0) ⊎ (0 < n) → buildings-round-six x ≡ (if x >ᶠ zeroᶠ then x else fin true 0 (pos 0))
+    go n v N (inl z) = rw (lt-whole zeroᶠ x 0 n zero-whole v, z, round-six-zero-whole x (subst (Whole x) z v))
+    go n v N (inr P) = rw (lt-whole zeroᶠ x 0 n zero-whole v, same-test (ltb 0 n) true (λ q. tt) (λ q. lt→ltb 0 n P), round-six-above x n v P N t)
+
 -- ---- the grid
 -- the last multiple of the period that is not after the start
+pub multiple-whole : (t period : Float) (n p : ℕ) → Whole t n → n ≤ 2147483648 → Whole period p → 0 < p → p ≤ 2 ^ 20 → Whole (floor (t ⊘ period) ⊗ period) (n / p * p) × (n / p * p ≤ 2147483648)
+multiple-whole t period n p v N w P Q =
+    let l : n / p * p ≤ n = div-mul-le-self n p in
+    (mul-whole (floor (t ⊘ period)) period (n / p) p (floor-quotient t period n p v w P Q (omega arith)) w (omega arith), omega arith)
+
+-- It is a time again, so that the first sample time is found without a division by 1,000,000.
+pub multiple-is-time : (t period : Float) (n p : ℕ) → Whole t n → n ≤ 2147483648 → Whole period p → 0 < p → p ≤ 2 ^ 20 → T (is-time (floor (t ⊘ period) ⊗ period))
+multiple-is-time t period n p v N w P Q =
+    let m = multiple-whole t period n p v N w P Q in
+    is-time-of (floor (t ⊘ period) ⊗ period) (n / p * p) (m .0) (m .1)
+
 pub initial-sample-time-whole : (t period : Float) (n p : ℕ) → Whole t n → n ≤ 2147483648 → Whole period p → 0 < p → p ≤ 2 ^ 20 → Whole (initial-sample-time t period) (n / p * p)
 unfolding initial-sample-time
 initial-sample-time-whole t period n p v N w P Q =
-    let l : n / p * p ≤ n = div-mul-le-self n p in
-    round-six-whole (floor (t ⊘ period) ⊗ period) (n / p * p)
-    (mul-whole (floor (t ⊘ period)) period (n / p) p (floor-quotient t period n p v w P Q (omega arith)) w (omega arith))
-    (omega arith)
+    let m = multiple-whole t period n p v N w P Q in
+    round-six-whole (floor (t ⊘ period) ⊗ period) (n / p * p) (m .0) (m .1)
+
+-- Where a grid starts, as a part of a sampler's step: the first tick sets it, and a later one keeps it, sampled or not.
+pub set-once : {A B : Type 0} (part : A → B) (started sampled : Bool) (first one other : A) → part one ≡ part other
+    → part (if not started then first else if sampled then one else other) ≡ (if started then part other else part first)
+set-once part true true first one other e = e
+set-once part true false first one other e = refl
+set-once part false sampled first one other e = refl
 
 -- the whole periods from t0 to t
 pub sample-index-whole : (t t0 period : Float) (n m p : ℕ) → Whole t n → Whole t0 m → m ≤ n → n ≤ 2147483648 → Whole period p → 0 < p → p ≤ 2 ^ 20

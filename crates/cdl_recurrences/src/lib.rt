@@ -1,5 +1,8 @@
 // The recurrences of cdl_recurrences.rs that the controller calls, in that file's order. Where the Rust takes slices and `[0]` is read, one value goes in and one comes out.
 ghost use mathlib.Core.Path.{_≡_};
+ghost use mathlib.Core.Bool.{not};
+ghost use lib.Dec.{T};
+ghost use Rattle.f64_helpers.specs.Seconds.{is-time};
 ghost use Rattle.cdl_recurrences.specs.CdlRecurrences as Cdl;
 ghost use Rattle.cdl_recurrences.specs.CdlPieces as CdlPieces;
 
@@ -158,7 +161,20 @@ pub fn initial_sample_time(t_start: f64, period: f64) -> f64
     buildings_round_six(f64_helpers::floor(t_start / period) * period)
 }
 
+// A whole number of seconds has no decimals to round: it comes back, and a zero of either sign is -0.0.
 pub fn buildings_round_six(x: f64) -> f64
+    ensures { λ r. ⌜ r ≡ Cdl.buildings-round-six x ⌝ }
+{
+    if f64_helpers::is_time(x) {
+        if x > 0.0 { x } else { -0.0 }
+    } else {
+        round_six_by_division(x)
+    }
+}
+
+// Any other number. Nothing else here divides by 1,000,000, and no call with a whole number of seconds is allowed.
+fn round_six_by_division(x: f64) -> f64
+    requires { ⌜ T (not (is-time x)) ⌝ }
     ensures { λ r. ⌜ r ≡ Cdl.buildings-round-six x ⌝ }
 {
     if x > 0.0 {

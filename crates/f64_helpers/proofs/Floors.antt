@@ -31,9 +31,12 @@ ceil-whole false m k t = ap (λ (z : ℕ). round binary64 false z 1) (div-one (m
 too-large : (m p q : ℕ) → m < 9007199254740992 → q ≡ 2 * p → 0 < p → 4503599627370496 * q ≤ m * 1 * 1 → ⊥
 too-large m p q a b c d = omega arith
 
+pub no-fraction : (m k : ℕ) → T (fits binary64 (fin false m (negsuc k))) → 4503599627370496 * 2 ^ suc k ≤ m * 1 * 1 → ⊥
+no-fraction m k t = too-large m (2 ^ k) (2 ^ suc k) (fits-frac false m k t) (pow-succ' 2 k) (pow-pos k)
+
 pub not-frac : (m k : ℕ) → T (fits binary64 (fin false m (negsuc k))) → T (not (lt (fin false m (negsuc k)) (fin false 1 (pos 52)))) → ⊥
 unfolding lt
-not-frac m k t h = too-large m (2 ^ k) (2 ^ suc k) (fits-frac false m k t) (pow-succ' 2 k) (pow-pos k) (nltb→le (m * 1 * 1) (4503599627370496 * 2 ^ suc k) h)
+not-frac m k t h = no-fraction m k t (nltb→le (m * 1 * 1) (4503599627370496 * 2 ^ suc k) h)
 
 pub floor-large : (x : Float) → T (fits binary64 x) → T (lt zeroᶠ x) → T (not (lt x (fin false 1 (pos 52)))) → floor x ≡ x
 floor-large nan t p h = unfold floor in refl

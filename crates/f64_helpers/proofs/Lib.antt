@@ -7,6 +7,7 @@ mod AbsoluteValue
 mod LargerOfTwo
 mod Signs
 mod WholeTest
+pub mod Times
 pub mod Meaning
 pub mod WholeSeconds
 pub mod Quotients

@@ -3,6 +3,7 @@ ghost use mathlib.Core.Path.{_≡_};
 ghost use lib.Dec.{T};
 ghost use Rattle.f64_helpers.specs.F64.{_<ᶠ_, zero, if_then_else_};
 ghost use Rattle.f64_helpers.specs.Helpers as Helpers;
+ghost use Rattle.f64_helpers.specs.Seconds as Seconds;
 
 // The floor of an x above 0. From 2^52 on every f64 is whole.
 fn floor_of_positive(x: f64) -> f64
@@ -135,6 +136,13 @@ pub fn is_whole(x: f64) -> bool
     ensures { λ r. ⌜ r ≡ Helpers.is-whole x ⌝ }
 {
     (x - x == 0.0) & (floor(x) == x)
+}
+
+// Whether t is a whole number of seconds from 0 to 2,147,483,648. An f64 from 2^52 on has no place for a fraction: 2^52 added and taken off again give t back exactly if it has none.
+pub fn is_time(t: f64) -> bool
+    ensures { λ r. ⌜ r ≡ Seconds.is-time t ⌝ }
+{
+    (t >= 0.0) & (t <= 2147483648.0) & (t + 4503599627370496.0 - 4503599627370496.0 == t)
 }
 
 // `if b { x } else { y }`, where a stage picks between two values.

@@ -14,7 +14,8 @@ use Rattle.cooling_only_controller_timing.proofs.TrueDelayLaw.{TrueSince, true-
 use Rattle.air_box.specs.declared.Tick.{Tick}
 use Rattle.nights.specs.Nights.{HoldsAlong, HeldFor}
 use Rattle.nights.proofs.Histories.{in-order, extended, in-order-extended, history-of-parts, newest-time}
-use Rattle.nights.proofs.AcceptedTicks.{accepted-time, accepted-not-before, AllAccepted}
+use Rattle.air_box.proofs.Demands.{accepted-time}
+use Rattle.nights.proofs.AcceptedTicks.{accepted-not-before, AllAccepted}
 
 -- the delay's samples over a history: the condition as it is computed, tick by tick
 abbrev pub samples : (List Tick → Bool) → List Tick → List Sample
