@@ -11,6 +11,7 @@ use Rattle.f64_helpers.specs.F64.{_⊗_, _⊘_, _>ᶠ_, zero, if_then_else_}
 use Rattle.f64_helpers.specs.Helpers.{floor}
 use Rattle.f64_helpers.specs.Seconds.{IsTime, is-time}
 use Rattle.cdl_recurrences.specs.CdlRecurrences.{buildings-round-six}
+use Rattle.cooling_only_controller_timing.specs.declared.SamplerState.{SamplerState}
 use Rattle.cooling_only_controller_conditioning.specs.Conditioning.{SAMPLE_PERIOD}
 use Rattle.cooling_only_controller.specs.declared.ControllerState.{ControllerState}
 use Rattle.air_box.specs.AirBox.{tick}
@@ -30,26 +31,19 @@ multiple-before t = floor (t ⊘ SAMPLE_PERIOD) ⊗ SAMPLE_PERIOD
 abbrev pub starts-at : Bool → Float → Float → Float
 starts-at initialized t0 t = if initialized then t0 else as-it-came (multiple-before t)
 
+abbrev pub SamplerStarts : SamplerState → SamplerState → Float → Type 0
+SamplerStarts before after t = after .t0 ≡ starts-at (before .initialized) (before .t0) t
+
 -- the box's six grids, which are all that calls `initial-sample-time`: of five samplers and a unit delay
 pub record Grids (before after : ControllerState) (t : Float) : Type 0 where
-  pub suppression-sampler :
-      let was = before .«time_suppression» .«setpoint_sampler» in
-      after .«time_suppression» .«setpoint_sampler» .t0 ≡ starts-at (was .initialized) (was .t0) t
+  pub suppression-sampler : SamplerStarts (before .«time_suppression» .«setpoint_sampler») (after .«time_suppression» .«setpoint_sampler») t
   pub previous-sample :
-      let was = before .«time_suppression» .«previous_sample» in
-      after .«time_suppression» .«previous_sample» .t0 ≡ starts-at (was .initialized) (was .t0) t
-  pub cooling-sampler :
-      let was = before .«system_requests» .«cooling_sampler» in
-      after .«system_requests» .«cooling_sampler» .t0 ≡ starts-at (was .initialized) (was .t0) t
-  pub setpoint-sampler :
-      let was = before .«system_requests» .«setpoint_sampler» in
-      after .«system_requests» .«setpoint_sampler» .t0 ≡ starts-at (was .initialized) (was .t0) t
-  pub discharge-sampler :
-      let was = before .«system_requests» .«discharge_sampler» in
-      after .«system_requests» .«discharge_sampler» .t0 ≡ starts-at (was .initialized) (was .t0) t
-  pub damper-sampler :
-      let was = before .«system_requests» .«damper_sampler» in
-      after .«system_requests» .«damper_sampler» .t0 ≡ starts-at (was .initialized) (was .t0) t
+      let delay = before .«time_suppression» .«previous_sample» in
+      after .«time_suppression» .«previous_sample» .t0 ≡ starts-at (delay .initialized) (delay .t0) t
+  pub cooling-sampler : SamplerStarts (before .«system_requests» .«cooling_sampler») (after .«system_requests» .«cooling_sampler») t
+  pub setpoint-sampler : SamplerStarts (before .«system_requests» .«setpoint_sampler») (after .«system_requests» .«setpoint_sampler») t
+  pub discharge-sampler : SamplerStarts (before .«system_requests» .«discharge_sampler») (after .«system_requests» .«discharge_sampler») t
+  pub damper-sampler : SamplerStarts (before .«system_requests» .«damper_sampler») (after .«system_requests» .«damper_sampler») t
 
 -- ---- N5
 pub record NoDivision : Type 0 where

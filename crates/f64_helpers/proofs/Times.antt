@@ -67,9 +67,10 @@ is-time-of t n v N =
     (is-whole-if-whole t n v)
 
 pub is-time-means : (t : Float) → T (is-time t) ↔ IsTime t
-is-time-means t =
-    (λ p. time-of-whole t (and-r (in-range t) (is-whole t) p) (and-l (in-range t) (is-whole t) p),
-    λ h. is-time-of t (seconds t) (h .0) (h .1))
+is-time-means t = (
+  λ p. time-of-whole t (and-r (in-range t) (is-whole t) p) (and-l (in-range t) (is-whole t) p),
+  λ h. is-time-of t (seconds t) (h .0) (h .1),
+)
 
 -- ---- 2 ^ 52 added and taken off
 abbrev room : Float
