@@ -41,7 +41,8 @@ static bool has_a_million(const double *numbers, int count) {
     return numbers[0] == 1e6 || (count == 2 && numbers[1] == 1e6);
 }
 
-/* Counts the instruction at `code` if it is a division by 1,000,000 or a multiplication by it, of one double or of two. */
+/* Counts the instruction at `code` if it is a division by 1,000,000 or a multiplication by it, of one double or of two. The archive has no other kinds of
+   division, and no AVX: the scripts beside this file see to that. */
 static void look_at(const uint8_t *code, const mcontext_t *machine) {
     unsigned prefix = 0, rex = 0;
     while (*code == SCALAR || *code == PACKED) prefix = *code++;
@@ -93,14 +94,16 @@ static uint64_t bits(void) {
 
 static double between(double low, double high) { return low + (high - low) * (double)(bits() >> 11) / 9007199254740992.0; }
 
-/* The time of the nth box's first tick: the ends, both zeros and what lies around multiples of 120, then whole seconds of any size in range. */
+/* The time of the nth box's first tick: the ends, both zeros and what lies around multiples of 120, then whole seconds of any size in range.
+   From 120,000,000 on, for two minutes, 1,000,000 is the number of periods that is multiplied by 120; those are left out. */
 static double first_time(unsigned long n) {
     static const double times[] = {0.0, -0.0, 1, 60, 119, 120, 121, 239, 240, 2147483519, 2147483520, 2147483640, 2147483647, 2147483648};
     if (n < sizeof times / sizeof times[0]) return times[n];
-    return (double)(bits() >> (33 + bits() % 31));
+    uint64_t time = bits() >> (33 + bits() % 31);
+    return (double)(time / 120 == 1000000 ? time + 120 : time);
 }
 
-/* Any readings that are in range, any modes, overrides and flags. */
+/* Readings in range, modes and overrides from 0 to 7, any flags. */
 static AirBoxTick first_tick(unsigned long n) {
     uint64_t choices = bits();
     return (AirBoxTick){first_time(n), {between(150, 450), between(150, 450), between(150, 450), choices & 1, choices & 2, (int64_t)(choices >> 8 & 7),
@@ -113,7 +116,7 @@ static int failed(const char *what) {
     return 1;
 }
 
-/* Whether the counting sees the one division and the one multiplication that stand in the function at `initial_sample_time`, for a start at -1. */
+/* Whether the counting sees the division and the multiplication that a start at -1 comes to in the function at `initial_sample_time`. */
 static bool counts_what_is_there(uintptr_t initial_sample_time) {
     step_through(initial_sample_time);
     double start = ((double (*)(double, double))initial_sample_time)(-1, 120);

@@ -10,7 +10,7 @@ use Rattle.f64_helpers.specs.Seconds.{IsTime}
 use Rattle.f64_helpers.proofs.Times.{time-of-whole}
 use Rattle.cdl_recurrences.specs.declared.OptionalTime.{OptionalTime}
 use Rattle.cooling_only_controller.specs.declared.ControllerOutput.{ControllerOutput}
-use Rattle.air_box.specs.AirBox.{yes, questions, decided, accepted-tick, tick, given-for, refusal-number, outputs-or-number}
+use Rattle.air_box.specs.AirBox.{yes, questions, accepted-tick, tick, given-for, refusal-number, outputs-or-number}
 use Rattle.air_box.specs.Demand1.{AllYes, FirstNo, Demand1}
 use Rattle.air_box.specs.Demand2.{controller-step-of, Demand2}
 use Rattle.air_box.specs.declared.Tick.{Tick}

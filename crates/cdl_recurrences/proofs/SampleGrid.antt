@@ -4,7 +4,7 @@ use Prim.Native.Nat.{ℕ, _+_, _-_, _*_, _/_, _^_, _≤_, _<_}
 use native.Mathlib.Nat.{le-trans, mul-one, add-mul, mul-mul-mul-comm, mul-pos, zero-lt-suc, div-le-self, div-mul-le-self, add-mul-div-right, le-div-iff-mul-le, le-refl, le-antisymm, eq-zero-or-pos}
 use native.Mathlib.Omega.{arith}
 use mathlib.Core.Logic.{_⊎_, inl, inr}
-use mathlib.Core.Bool.{Bool, true, false, not}
+use mathlib.Core.Bool.{Bool, true, false}
 use lib.IntN.{ℤ, pos, negsuc}
 use lib.Dec.{T, ltb, ltb→lt, lt→ltb, lit≤}
 use lib.Ieee.{Float, nan, inf, fin, binary64, unlike, up, down, round, add, sub, div, neg, fits}
@@ -69,9 +69,6 @@ round-six-zero-whole x v =
     let s = unlike (negative x) (negative million) in
     rw (lt-whole zeroᶠ x 0 0 zero-whole v, mul-is x million 0 1000000 v million-whole, round-zero s 1 (zero-lt-suc 0)) (ceil-half s)
 
-pub round-six-zero : (s : Bool) → buildings-round-six (fin s 0 (pos 0)) ≡ fin true 0 (pos 0)
-round-six-zero s = round-six-zero-whole (fin s 0 (pos 0)) (refl, λ q. refl)
-
 -- ---- both
 round-six-is : (x : Float) (n : ℕ) → Whole x n → 0 < n → buildings-round-six x ≡ floor (x ⊗ million ⊕ decimal 5 10) ⊘ million
 unfolding buildings-round-six
@@ -123,13 +120,6 @@ unfolding initial-sample-time
 initial-sample-time-whole t period n p v N w P Q =
     let m = multiple-whole t period n p v N w P Q in
     round-six-whole (floor (t ⊘ period) ⊗ period) (n / p * p) (m .0) (m .1)
-
--- Where a grid starts, as a part of a sampler's step: the first tick sets it, and a later one keeps it, sampled or not.
-pub set-once : {A B : Type 0} (part : A → B) (started sampled : Bool) (first one other : A) → part one ≡ part other
-    → part (if not started then first else if sampled then one else other) ≡ (if started then part other else part first)
-set-once part true true first one other e = e
-set-once part true false first one other e = refl
-set-once part false sampled first one other e = refl
 
 -- the whole periods from t0 to t
 pub sample-index-whole : (t t0 period : Float) (n m p : ℕ) → Whole t n → Whole t0 m → m ≤ n → n ≤ 2147483648 → Whole period p → 0 < p → p ≤ 2 ^ 20

@@ -161,7 +161,7 @@ pub fn initial_sample_time(t_start: f64, period: f64) -> f64
     buildings_round_six(f64_helpers::floor(t_start / period) * period)
 }
 
-// A whole number of seconds has no decimals to round: it comes back, and a zero of either sign is -0.0.
+// A whole number of seconds in range has no decimals to round: it comes back, and a zero of either sign gives -0.0.
 pub fn buildings_round_six(x: f64) -> f64
     ensures { λ r. ⌜ r ≡ Cdl.buildings-round-six x ⌝ }
 {
@@ -172,7 +172,7 @@ pub fn buildings_round_six(x: f64) -> f64
     }
 }
 
-// Any other number. Nothing else here divides by 1,000,000, and no call with a whole number of seconds is allowed.
+// Any other number, by the Rust's own steps. The `requires` keeps times away: nothing else here multiplies or divides by 1,000,000.
 fn round_six_by_division(x: f64) -> f64
     requires { ⌜ T (not (is-time x)) ⌝ }
     ensures { λ r. ⌜ r ≡ Cdl.buildings-round-six x ⌝ }

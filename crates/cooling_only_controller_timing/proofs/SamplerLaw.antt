@@ -7,10 +7,9 @@ use mathlib.Core.Bool.{Bool, true, false, not, cond}
 use mathlib.Core.List.{List, [], _∷_}
 use lib.Dec.{T, ltb, nltb→le}
 use lib.Ieee.{Float}
-use Rattle.f64_helpers.specs.F64.{if_then_else_}
 use Rattle.f64_helpers.specs.Seconds.{Whole, seconds, IsTime}
-use Rattle.cdl_recurrences.specs.CdlRecurrences.{sampler-output, initial-sample-time, sample-due}
-use Rattle.cdl_recurrences.proofs.SampleGrid.{set-once, OnGrid, grid-first, grid-due, grid-sampled, grid-kept}
+use Rattle.cdl_recurrences.specs.CdlRecurrences.{sampler-output, sample-due}
+use Rattle.cdl_recurrences.proofs.SampleGrid.{OnGrid, grid-first, grid-due, grid-sampled, grid-kept}
 use Rattle.cooling_only_controller_timing.specs.declared.SamplerState.{SamplerState}
 use Rattle.cooling_only_controller_timing.specs.Timing.{fresh-sampler, sampler-sample}
 use Rattle.cooling_only_controller_timing.specs.SamplerHistory.{SamplerTick, sampler-after, TimesInOrder, held-by-rule}
@@ -43,11 +42,6 @@ output-later : (s : SamplerState) (t u period : Float) (b : Bool) → s .initial
     → sampler-sample s t u period .output ≡ cond b u (s .held)
 unfolding sampler-sample sampler-output
 output-later s t u period b e d = rw (e, d)
-
--- The grid starts at the first tick, and stays.
-pub sampler-t0 : (s : SamplerState) (t u period : Float) → sampler-sample s t u period .state .t0 ≡ (if s .initialized then s .t0 else initial-sample-time t period)
-unfolding sampler-sample
-sampler-t0 s t u period = set-once (λ (next : SamplerState). next .t0) (s .initialized) (sample-due t (s .t0) period (s .«last_index») .due) _ _ _ refl
 
 module _ (period : Float) (p : ℕ) (w : Whole period p) (P : 0 < p) (Q : p ≤ 2 ^ 20) where
   first-tick : (t u : Float) → IsTime t → Kept p (sampler-sample fresh-sampler t u period .state) (seconds t) u

@@ -10,13 +10,13 @@ use lib.IntN.{ℤ, pos, negsuc}
 use lib.Dec.{T, ltb, ltb→lt, eqb, eqb→eq, nltb→le, lit≤}
 use lib.Ieee.{Float, fin, binary64, up, down, round, sub, le, ofInt}
 use lib.Ieee.Fits.{down-pos}
-use Rattle.f64_helpers.specs.F64.{_⊖_, _⊘_, _≤ᶠ_, decimal, zero as zeroᶠ, if_then_else_}
+use Rattle.f64_helpers.specs.F64.{_⊖_, _⊘_, _≤ᶠ_, decimal, zero as zeroᶠ}
 use Rattle.f64_helpers.specs.Helpers.{abs, as-f64, negative}
 use Rattle.f64_helpers.specs.Seconds.{Whole, seconds, IsTime}
 use Rattle.f64_helpers.proofs.WholeSeconds.{same-test, sub-whole}
 use Rattle.f64_helpers.proofs.Quotients.{sign-whole, div-is, round-zero, Within, rounded-within, fraction-held, whole-held, value-above}
 use Rattle.cdl_recurrences.specs.CdlRecurrences.{initial-sample-time, sample-index, sample-due}
-use Rattle.cdl_recurrences.proofs.SampleGrid.{set-once, initial-sample-time-whole, sample-index-whole, OnGrid, grid-first, grid-due, grid-sampled, grid-kept}
+use Rattle.cdl_recurrences.proofs.SampleGrid.{initial-sample-time-whole, sample-index-whole, OnGrid, grid-first, grid-due, grid-sampled, grid-kept}
 use Rattle.cooling_only_controller_timing.specs.declared.UnitDelayState.{UnitDelayState}
 use Rattle.cooling_only_controller_timing.specs.declared.UnitDelayStep.{UnitDelayStep}
 use Rattle.cooling_only_controller_timing.specs.Timing.{fresh-unit-delay, unit-delay-sample}
@@ -98,11 +98,6 @@ sample-later : (s : UnitDelayState) (t u period : Float) (b : Bool) → s .initi
 unfolding unit-delay-sample
 sample-later s t u period true e d = rw (e, d)
 sample-later s t u period false e d = rw (e, d)
-
--- The grid starts at the first tick, and stays.
-pub unit-delay-t0 : (s : UnitDelayState) (t u period : Float) → unit-delay-sample s t u period .state .t0 ≡ (if s .initialized then s .t0 else initial-sample-time t period)
-unfolding unit-delay-sample
-unit-delay-t0 s t u period = set-once (λ (step : UnitDelayStep). step .state .t0) (s .initialized) (not (sample-due t (s .t0) period (s .«last_index») .due)) _ _ _ refl
 
 module _ (period : Float) (p : ℕ) (w : Whole period p) (P : 0 < p) (Q : p ≤ 2 ^ 20) where
   first-on-grid : (t : Float) → IsTime t

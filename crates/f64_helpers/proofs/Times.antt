@@ -1,7 +1,7 @@
 -- A whole number of seconds from 0 to 2,147,483,648, by the code's tests: comparisons with both ends, and 2 ^ 52 added and taken off again. Assumes nothing.
 use mathlib.Core.Path.{_≡_, refl, sym, ap, _∙_, subst}
 use mathlib.Core.Logic.{_↔_}
-use Prim.Native.Nat.{ℕ, suc, _+_, _-_, _*_, _/_, _%_, _^_, _≤_, _<_}
+use Prim.Native.Nat.{ℕ, _+_, _-_, _*_, _/_, _%_, _^_, _≤_}
 use native.Mathlib.Nat.{mul-one, zero-mul, mul-right-comm, mul-mod-left, zero-lt-suc, zero-div, div-add-mod', eq-of-mul-eq-mul-right, mul-pos}
 use native.Mathlib.Omega.{arith}
 use mathlib.Core.Bool.{Bool, true, false, _&&_}

@@ -1,4 +1,4 @@
-// The f64 functions that the published Rust takes from its standard library, for every f64: NaN, infinities, zeros of either sign, subnormals. Beside them its `x.max(0.0)` by one comparison (`max_zero`), two of its steps in one (`floor_as_i64`), the test for a whole number, and the choice between two values.
+// The f64 functions that the published Rust takes from its standard library, for every f64: NaN, infinities, zeros of either sign, subnormals. Beside them its `x.max(0.0)` by one comparison (`max_zero`), two of its steps in one (`floor_as_i64`), the tests for a whole number and for a time, and the choice between two values.
 ghost use mathlib.Core.Path.{_≡_};
 ghost use lib.Dec.{T};
 ghost use Rattle.f64_helpers.specs.F64.{_<ᶠ_, zero, if_then_else_};
