@@ -104,7 +104,7 @@ round-six-time x t h = go (seconds x) (is-time-means x .0 h .0) (is-time-means x
 
 -- ---- the grid
 -- the last multiple of the period that is not after the start
-pub multiple-whole : (t period : Float) (n p : ℕ) → Whole t n → n ≤ 2147483648 → Whole period p → 0 < p → p ≤ 2 ^ 20 → Whole (floor (t ⊘ period) ⊗ period) (n / p * p) × (n / p * p ≤ 2147483648)
+multiple-whole : (t period : Float) (n p : ℕ) → Whole t n → n ≤ 2147483648 → Whole period p → 0 < p → p ≤ 2 ^ 20 → Whole (floor (t ⊘ period) ⊗ period) (n / p * p) × (n / p * p ≤ 2147483648)
 multiple-whole t period n p v N w P Q =
     let l : n / p * p ≤ n = div-mul-le-self n p in
     (mul-whole (floor (t ⊘ period)) period (n / p) p (floor-quotient t period n p v w P Q (omega arith)) w (omega arith), omega arith)

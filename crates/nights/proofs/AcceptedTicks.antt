@@ -1,4 +1,4 @@
--- What the questions ensure of accepted ticks: each time is a whole number of seconds, and none is before an older one. Histories of accepted ticks, the newest first. Assumes nothing.
+-- Of accepted ticks no time is before an older one, by question 3. The literals of times. Histories of accepted ticks, the newest first. Assumes nothing.
 use mathlib.Core.List.{List, [], _∷_}
 use Prim.Native.Nat.{ℕ, _^_, _≤_}
 use Rattle.f64_helpers.specs.F64.{decimal}

@@ -12,9 +12,9 @@ use Rattle.cdl_recurrences.specs.DeadBand.{Related}
 use Rattle.cooling_only_controller_timing.specs.History.{Sample, true-delay-after, NotBefore, Timed, TrueIfTrue}
 use Rattle.cooling_only_controller_timing.proofs.TrueDelayLaw.{TrueSince, true-since-law, true-delay-two-histories}
 use Rattle.air_box.specs.declared.Tick.{Tick}
+use Rattle.air_box.proofs.Demands.{accepted-time}
 use Rattle.nights.specs.Nights.{HoldsAlong, HeldFor}
 use Rattle.nights.proofs.Histories.{in-order, extended, in-order-extended, history-of-parts, newest-time}
-use Rattle.air_box.proofs.Demands.{accepted-time}
 use Rattle.nights.proofs.AcceptedTicks.{accepted-not-before, AllAccepted}
 
 -- the delay's samples over a history: the condition as it is computed, tick by tick
