@@ -16,7 +16,7 @@ use Rattle.f64_helpers.specs.F64.{_⊕_, _⊖_, _⊗_, _⊘_, _>ᶠ_, decimal, 
 use Rattle.f64_helpers.specs.Helpers.{floor, ceil, negative}
 use Rattle.f64_helpers.specs.Seconds.{Whole, seconds, is-time}
 use Rattle.f64_helpers.proofs.WholeSeconds.{zero-whole, lt-whole, sub-whole, same-test}
-use Rattle.f64_helpers.proofs.Times.{is-time-of, is-time-means}
+use Rattle.f64_helpers.proofs.Times.{decimal-whole, is-time-of, is-time-means}
 use Rattle.f64_helpers.proofs.Quotients.{round-zero, mul-is, mul-whole, div-exact, floor-rounded, floor-quotient, as-i64-whole}
 use Rattle.cdl_recurrences.specs.CdlRecurrences.{buildings-round-six, initial-sample-time, sample-index, sample-due}
 
@@ -25,8 +25,7 @@ abbrev million : Float
 million = decimal 1000000 1
 
 million-whole : Whole million 1000000
-unfolding round
-million-whole = (refl, λ q. absurd q)
+million-whole = decimal-whole 1000000 (omega arith)
 
 half-is : decimal 5 10 ≡ fin false 1 (negsuc 0)
 unfolding round

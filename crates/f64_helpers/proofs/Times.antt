@@ -1,4 +1,4 @@
--- A whole number of seconds from 0 to 2,147,483,648, by the code's tests: comparisons with both ends, and 2 ^ 52 added and taken off again. Assumes nothing.
+-- Times, the whole numbers of seconds from 0 to 2,147,483,648: the literals, what the test `is-time` means, and that the code decides it by comparisons with both ends and by 2 ^ 52 added and taken off again. Assumes nothing.
 use mathlib.Core.Path.{_≡_, refl, sym, ap, _∙_, subst}
 use mathlib.Core.Logic.{_↔_}
 use Prim.Native.Nat.{ℕ, _+_, _-_, _*_, _/_, _%_, _^_, _≤_}
@@ -16,6 +16,7 @@ use Rattle.f64_helpers.proofs.Floors.{no-fraction}
 use Rattle.f64_helpers.proofs.WholeSeconds.{zero-whole, round-to, add-whole, sub-whole, same-test, eq-whole, le-whole}
 use Rattle.f64_helpers.proofs.Quotients.{Within, whole-held, value-above, rounded-within}
 
+-- ---- literals and comparisons
 pub decimal-whole : (n : ℕ) → n ≤ 2 ^ 53 → Whole (decimal n 1) n
 decimal-whole n l = round-to binary64 false n 1 n (zero-lt-suc 0) l (sym (mul-one n)) (λ q. absurd q)
 
@@ -73,6 +74,7 @@ is-time-means t = (
 )
 
 -- ---- 2 ^ 52 added and taken off
+-- a number in range with this added has no room for a fraction
 abbrev room : Float
 room = fin false 1 (pos 52)
 
@@ -101,6 +103,7 @@ equal-whole (fin s k d) n m e v h =
     let same = eqb→eq (k * up d * down e) (m * up e * down d) (and-l (eqb (k * up d * down e) (m * up e * down d)) _ h) in
     eq-of-mul-eq-mul-right (down d) (down-pos d) (m * up e) (n * down e) (sym same ∙ ap (λ (z : ℕ). z * down e) (v .0) ∙ mul-right-comm n (down d) (down e))
 
+-- a number in range that comes back is whole
 whole-by-room : (t : Float) → T (in-range t) → T (eq (t ⊕ room ⊖ room) t) → T (is-whole t)
 whole-by-room nan p h = absurd (unfold add eq sub in h)
 whole-by-room (inf s) p h = absurd (not-infinite s p)
@@ -115,6 +118,7 @@ whole-by-room (fin false m e) p h =
     let v : Whole (x ⊕ room ⊖ room) (y .0 - 2 ^ 52) = sub-whole binary64 (x ⊕ room) room (y .0) (2 ^ 52) (y .1) room-whole (y .2) (y .3) in
     is-whole-if-whole x (y .0 - 2 ^ 52) (equal-whole (x ⊕ room ⊖ room) (y .0 - 2 ^ 52) m e v h, λ q. absurd q)
 
+-- and a time comes back
 room-by-whole : (t : Float) → IsTime t → T (eq (t ⊕ room ⊖ room) t)
 room-by-whole t (v, N) =
     let n = seconds t in
