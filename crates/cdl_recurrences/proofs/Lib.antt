@@ -1,2 +1,3 @@
 pub mod DeadBandLaw
+pub mod MemoryDecided
 pub mod SampleGrid

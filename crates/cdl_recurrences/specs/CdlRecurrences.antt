@@ -2,7 +2,7 @@
 -- Each definition names its Rust function and, where there is one, its block of the Modelica Buildings library (CDL).
 -- Document 01 decides `clamp`, `hysteresis`, `less-hysteretic`, `sampler-output`, `initial-sample-time`, `sample-index` and `sample-due`;
 -- docs/DIFFERENCES.md has the pairs that were found to differ.
-use mathlib.Core.Bool.{Bool, true, false, not, _&&_, _||_}
+use mathlib.Core.Bool.{Bool, true, false, not, xor, _&&_, _||_}
 use lib.IntN.{ℤ}
 use lib.Signed.{ltZ}
 use lib.Ieee.{Float}
@@ -10,6 +10,7 @@ use Rattle.f64_helpers.specs.F64.{_⊕_, _⊖_, _⊗_, _⊘_, _<ᶠ_, _>ᶠ_, _
 use Rattle.f64_helpers.specs.Helpers.{floor, ceil, max, as-i64}
 use Rattle.cdl_recurrences.specs.declared.OptionalTime.{OptionalTime}
 use Rattle.cdl_recurrences.specs.declared.OptionalTime.the-variants.{Absent, At}
+use Rattle.cdl_recurrences.specs.declared.DeadBandOutput.{DeadBandOutput}
 use Rattle.cdl_recurrences.specs.declared.TrueDelayOutput.{TrueDelayOutput}
 use Rattle.cdl_recurrences.specs.declared.SampleDue.{SampleDue}
 
@@ -36,6 +37,15 @@ less-hysteretic u1 u2 h previous = (not previous && (u1 <ᶠ u2)) || (previous &
 -- Rust `greater_hysteretic`; CDL.Reals.Greater with h: turned on by a u1 above u2, and kept on by one above u2 - h
 unfoldable pub greater-hysteretic : Float → Float → Float → Bool → Bool
 greater-hysteretic u1 u2 h previous = (not previous && (u1 >ᶠ u2)) || (previous && (u1 >ᶠ u2 ⊖ h))
+
+-- No Rust function and no block: document 02, N2. `answer` is one of these three comparisons at its inputs, open to the memory.
+-- Memory decided if with the other memory the answer is the other one.
+unfoldable pub decided-by-memory : (Bool → Bool) → Bool → Bool
+decided-by-memory answer previous = xor (answer previous) (answer (not previous))
+
+-- What each of the three returns
+abbrev pub dead-band-output : (Bool → Bool) → Bool → DeadBandOutput
+dead-band-output answer previous = record { output = answer previous; «decided_by_memory» = decided-by-memory answer previous }
 
 -- Rust `true_delay_output`; CDL.Logical.TrueDelay. A rising input is passed on once it has been true for the delay, a falling one at once.
 -- A first input that is true is passed on at once, unless `delay-on-init` and the delay is above 0: then it counts as rising there.

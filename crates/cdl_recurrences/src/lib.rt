@@ -18,6 +18,12 @@ pub struct TrueDelayOutput {
     pub timer: f64,
 }
 
+// A dead-band comparison's answer, and whether its memory decided it: with the other memory the same inputs would have had the other answer.
+pub struct DeadBandOutput {
+    pub output: bool,
+    pub decided_by_memory: bool,
+}
+
 // Whether a sample is due, and the index of the sample instant.
 pub struct SampleDue {
     pub due: bool,
@@ -45,22 +51,32 @@ pub fn clamp(value: f64, min: f64, max: f64) -> f64
     }
 }
 
-pub fn hysteresis(u: f64, u_low: f64, u_high: f64, previous: bool) -> bool
-    ensures { λ r. ⌜ r ≡ Cdl.hysteresis u «u_low» «u_high» previous ⌝ }
+pub fn hysteresis(u: f64, u_low: f64, u_high: f64, previous: bool) -> DeadBandOutput
+    ensures { λ r. ⌜ r ≡ Cdl.dead-band-output (Cdl.hysteresis u «u_low» «u_high») previous ⌝ }
 {
-    (!previous & (u > u_high)) | (previous & (u >= u_low))
+    dead_band_output(previous, u > u_high, u >= u_low)
 }
 
-pub fn less_hysteretic(u1: f64, u2: f64, h: f64, previous: bool) -> bool
-    ensures { λ r. ⌜ r ≡ Cdl.less-hysteretic u1 u2 h previous ⌝ }
+pub fn less_hysteretic(u1: f64, u2: f64, h: f64, previous: bool) -> DeadBandOutput
+    ensures { λ r. ⌜ r ≡ Cdl.dead-band-output (Cdl.less-hysteretic u1 u2 h) previous ⌝ }
 {
-    (!previous & (u1 < u2)) | (previous & (u1 < u2 + h))
+    dead_band_output(previous, u1 < u2, u1 < u2 + h)
 }
 
-pub fn greater_hysteretic(u1: f64, u2: f64, h: f64, previous: bool) -> bool
-    ensures { λ r. ⌜ r ≡ Cdl.greater-hysteretic u1 u2 h previous ⌝ }
+pub fn greater_hysteretic(u1: f64, u2: f64, h: f64, previous: bool) -> DeadBandOutput
+    ensures { λ r. ⌜ r ≡ Cdl.dead-band-output (Cdl.greater-hysteretic u1 u2 h) previous ⌝ }
 {
-    (!previous & (u1 > u2)) | (previous & (u1 > u2 - h))
+    dead_band_output(previous, u1 > u2, u1 > u2 - h)
+}
+
+// Off asks the first test, on the second: the memory decides where the two disagree.
+fn dead_band_output(previous: bool, turns_on: bool, stays_on: bool) -> DeadBandOutput
+    ensures { λ r. ⌜ r ≡ CdlPieces.dead-band-by-tests previous «turns_on» «stays_on» ⌝ }
+{
+    DeadBandOutput {
+        output: (!previous & turns_on) | (previous & stays_on),
+        decided_by_memory: turns_on != stays_on,
+    }
 }
 
 pub fn true_delay_output(

@@ -72,7 +72,7 @@ impl DamperState {
             input.zone_temperature,
             TEMPERATURE_HYSTERESIS,
             self.supply_warm,
-        );
+        ).output;
         let airflow_setpoint = airflow_setpoint(input, supply_warm);
         let normalized_setpoint = airflow_setpoint / DESIGN_COOLING_MAXIMUM_FLOW;
         let normalized_measurement = input.discharge_airflow / DESIGN_COOLING_MAXIMUM_FLOW;
@@ -255,14 +255,14 @@ impl SystemRequestsState {
         ensures { λ r. ⌜ r ≡ AirflowPieces.temperature-request self t input «delay_on_init» ⌝ }
     {
         let temperature_difference = input.zone_temperature - input.cooling_setpoint;
-        let hot_three = hysteresis(temperature_difference, 2.75, 3.0, self.hot_three);
-        let hot_two = hysteresis(temperature_difference, 1.75, 2.0, self.hot_two);
+        let hot_three = hysteresis(temperature_difference, 2.75, 3.0, self.hot_three).output;
+        let hot_two = hysteresis(temperature_difference, 1.75, 2.0, self.hot_two).output;
         let hot_three_held = self.hot_three_delay
             .output(t, hot_three, 120.0, delay_on_init);
         let hot_two_held = self.hot_two_delay.output(t, hot_two, 120.0, delay_on_init);
         let sampled_cooling = self.cooling_sampler
             .sample(t, input.cooling_loop, SAMPLE_PERIOD);
-        let cooling_high = hysteresis(sampled_cooling.output, 0.94, 0.95, self.cooling_high);
+        let cooling_high = hysteresis(sampled_cooling.output, 0.94, 0.95, self.cooling_high).output;
         let temperature = request_level(
             input.after_suppression & hot_three_held.output,
             input.after_suppression & hot_two_held.output,
@@ -297,8 +297,8 @@ impl SystemRequestsState {
             .sample(t, input.discharge_airflow, SAMPLE_PERIOD);
         let sampled_damper = self.damper_sampler
             .sample(t, input.damper_position, SAMPLE_PERIOD);
-        let setpoint_on = hysteresis(sampled_setpoint.output, 0.005, 0.01, self.setpoint_on);
-        let damper_high = hysteresis(sampled_damper.output, 0.94, 0.95, self.damper_high);
+        let setpoint_on = hysteresis(sampled_setpoint.output, 0.005, 0.01, self.setpoint_on).output;
+        let damper_high = hysteresis(sampled_damper.output, 0.94, 0.95, self.damper_high).output;
         let damper_held = self.damper_delay
             .output(t, damper_high, 60.0, delay_on_init);
         let starved_half = starved(
@@ -337,7 +337,7 @@ impl SystemRequestsState {
 fn starved(share: f64, setpoint: f64, discharge: f64, previous: bool) -> bool
     ensures { λ r. ⌜ r ≡ AirflowPieces.starved share setpoint discharge previous ⌝ }
 {
-    greater_hysteretic(share * setpoint, discharge, FLOW_HYSTERESIS, previous)
+    greater_hysteretic(share * setpoint, discharge, FLOW_HYSTERESIS, previous).output
 }
 
 // The two requests' memories and levels, put together.
@@ -484,10 +484,10 @@ impl AlarmsState {
         // The same with both starts: a box that restarts mostly finds its fan long on.
         let fan_armed = self.fan_armed
             .output(t, input.supply_fan_status, 1800.0, false);
-        let setpoint_nonzero = hysteresis(setpoint, 0.005, 0.01, self.setpoint_nonzero);
+        let setpoint_nonzero = hysteresis(setpoint, 0.005, 0.01, self.setpoint_nonzero).output;
         let setpoint_on = self.setpoint_on
             .output(t, setpoint_nonzero, 300.0, delay_on_init);
-        let low_half = less_hysteretic(flow, 0.5 * setpoint, FLOW_HYSTERESIS, self.low_half);
+        let low_half = less_hysteretic(flow, 0.5 * setpoint, FLOW_HYSTERESIS, self.low_half).output;
         let low_seventy = starved(0.7, setpoint, flow, self.low_seventy);
         let half_low = low_half & fan_armed.output;
         let low_half_held = self.low_half_delay
@@ -528,7 +528,7 @@ impl AlarmsState {
             limit,
             FLOW_HYSTERESIS,
             self.flow_high,
-        );
+        ).output;
         let sensor_held = self.sensor_delay
             .output(t, flow_high & !fan, 600.0, delay_on_init);
         let airflow_sensor = alarm_level(sensor_held.output & occupied, 3);
@@ -537,7 +537,7 @@ impl AlarmsState {
             DAMPER_POSITION_HYSTERESIS,
             0.5 * DAMPER_POSITION_HYSTERESIS,
             self.damper_closed,
-        );
+        ).output;
         let leaking = fan & damper_closed & flow_high;
         let leak_held = self.leak_delay.output(t, leaking, 600.0, delay_on_init);
         let leaking_damper = alarm_level(leak_held.output, 4);

@@ -183,7 +183,7 @@ impl TimeSuppressionState {
             TEMPERATURE_HYSTERESIS,
             0.5 * TEMPERATURE_HYSTERESIS,
             self.change_detected,
-        );
+        ).output;
         let setpoint_sampler = sampled_setpoint.state;
         let previous_sample = prior_sample.state;
         let startup_delay = startup_complete.state;
@@ -332,9 +332,14 @@ fn control_loop(
 ) -> LoopStep
     ensures { λ r. ⌜ r ≡ ConditioningPieces.control-loop t below above «was_enabled» pi «was_near_zero» delay ⌝ }
 {
-    let enable = less_hysteretic(below, above, TEMPERATURE_HYSTERESIS, was_enabled);
+    let enable = less_hysteretic(below, above, TEMPERATURE_HYSTERESIS, was_enabled).output;
     let raw = pi.output(t, above - below, enable);
-    let near_zero = less_hysteretic(raw.output, LOOP_THRESHOLD, LOOP_HYSTERESIS, was_near_zero);
+    let near_zero = less_hysteretic(
+        raw.output,
+        LOOP_THRESHOLD,
+        LOOP_HYSTERESIS,
+        was_near_zero,
+    ).output;
     let delayed = delay.output(t, near_zero, CONTROL_DELAY, false);
     let gate = choose(delayed.output & !enable, 0.0, 1.0);
     let next_pi = raw.state;
@@ -472,7 +477,7 @@ impl SetpointsState {
             input.discharge_air_temperature,
             TEMPERATURE_HYSTERESIS,
             self.cooling_supply,
-        );
+        ).output;
         let occupied_mode = input.operating_mode == 1;
         let override_to_zero = !input.window_status | !occupied_mode;
         let co2 = input.co2_setpoint;
@@ -567,9 +572,14 @@ impl ZoneStatesState {
     pub fn output(self, heating: f64, cooling: f64) -> ZoneStatesStep
         ensures { λ r. ⌜ r ≡ Conditioning.zone-states self heating cooling ⌝ }
     {
-        let heating_signal = hysteresis(heating, 0.01, 0.05, self.heating_signal);
-        let cooling_signal = hysteresis(cooling, 0.01, 0.05, self.cooling_signal);
-        let heating_tiebreak = hysteresis(heating - cooling, -0.01, 0.01, self.heating_tiebreak);
+        let heating_signal = hysteresis(heating, 0.01, 0.05, self.heating_signal).output;
+        let cooling_signal = hysteresis(cooling, 0.01, 0.05, self.cooling_signal).output;
+        let heating_tiebreak = hysteresis(
+            heating - cooling,
+            -0.01,
+            0.01,
+            self.heating_tiebreak,
+        ).output;
         let is_heating = heating_signal & heating_tiebreak;
         let is_cooling = !is_heating & cooling_signal;
         let output = zone_state(is_heating, is_cooling);
