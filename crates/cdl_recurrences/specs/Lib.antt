@@ -1,3 +1,4 @@
 pub mod CdlRecurrences
 pub mod CdlPieces
 pub mod DeadBand
+pub mod MemoryDecided

@@ -12,4 +12,5 @@ pub mod Meaning
 pub mod WholeSeconds
 pub mod Quotients
 pub mod Order
+pub mod Sums
 pub mod Integers

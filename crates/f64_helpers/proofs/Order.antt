@@ -1,6 +1,6 @@
 -- The order of all floats, a NaN, the infinities and zeros of either sign included: `<` and `<=` pass from one pair to the next, and of two numbers one is less exactly if the other is not at most it. Assumes nothing.
 use mathlib.Core.Path.{_≡_, refl, sym, ap, _∙_, subst}
-use mathlib.Core.Logic.{_↔_}
+use mathlib.Core.Logic.{_↔_, _⊎_, ⊎-elim}
 use Prim.Native.Nat.{ℕ, _+_, _*_, _≤_, _<_}
 use native.Mathlib.Nat.{zero-mul, zero-add, add-zero, add-comm, add-mul, mul-comm, mul-assoc, mul-le-mul-right, le-of-mul-le-mul-right}
 use native.Mathlib.Omega.{arith}
@@ -12,10 +12,10 @@ use Rattle.f64_helpers.proofs.WholeSeconds.{same-test}
 
 -- ---- signed sizes
 -- The size a with the sign s is `plus s a` less `plus (not s) a`: one of the two is 0.
-abbrev plus : Bool → ℕ → ℕ
+abbrev pub plus : Bool → ℕ → ℕ
 plus s a = cond s 0 a
 
-plus-mul : (s : Bool) (a c : ℕ) → plus s (a * c) ≡ plus s a * c
+pub plus-mul : (s : Bool) (a c : ℕ) → plus s (a * c) ≡ plus s a * c
 plus-mul true a c = sym (zero-mul c)
 plus-mul false a c = refl
 
@@ -56,7 +56,7 @@ at-most-is : (s t : Bool) (a b : ℕ) → (below s a t b || level s a t b) ≡ n
 at-most-is s t a b = (λ i. below-is s t a b i || level-is s t a b i) ∙ at-most (plus s a + plus (not t) b) (plus t b + plus (not s) a)
 
 -- ±a / p ≤ ±b / q
-fractions : (s t : Bool) (a b p q : ℕ) → T (below s (a * q) t (b * p) || level s (a * q) t (b * p)) ↔ (plus s a * q + plus (not t) b * p ≤ plus t b * p + plus (not s) a * q)
+pub fractions : (s t : Bool) (a b p q : ℕ) → T (below s (a * q) t (b * p) || level s (a * q) t (b * p)) ↔ (plus s a * q + plus (not t) b * p ≤ plus t b * p + plus (not s) a * q)
 fractions s t a b p q =
     let l = plus s a * q + plus (not t) b * p in
     let r = plus t b * p + plus (not s) a * q in
@@ -151,6 +151,13 @@ eq→le x y h = go (lt x y)
 
 pub not-both : (x y : Float) → T (lt x y) → T (le y x) → ⊥
 not-both x y h k = let n = le-numbers y x k in T-not (le y x) (subst T (lt-is-not-le x y (n .1) (n .0)) h) k
+
+-- no comparison with a NaN holds
+pub number-at-most : (x y : Float) → T (isNan x) ⊎ T (isNan y) → T (le x y) → ⊥
+number-at-most x y n h = let k = le-numbers x y h in ⊎-elim (T-not (isNan x) (k .0)) (T-not (isNan y) (k .1)) n
+
+pub number-below : (x y : Float) → T (isNan x) ⊎ T (isNan y) → T (lt x y) → ⊥
+number-below x y n h = number-at-most x y n (lt→le x y h)
 
 less-if-not : (x y : Float) → T (not (isNan x)) → T (not (isNan y)) → (T (le y x) → ⊥) → T (lt x y)
 less-if-not x y p q f = subst T (sym (lt-is-not-le x y p q)) (not-T (le y x) f)

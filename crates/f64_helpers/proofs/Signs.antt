@@ -36,13 +36,13 @@ zero-turned s a b z = go (eqb a b) (λ t. eq→eqb (eqb→eq a b t ∙ z))
         both false true t = refl
 
 -- the tests of `max`, at turned signs
-nan-turned : (x : Float) → isNan (neg x) ≡ isNan x
+pub nan-turned : (x : Float) → isNan (neg x) ≡ isNan x
 unfolding neg isNan
 nan-turned nan = refl
 nan-turned (inf s) = refl
 nan-turned (fin s m e) = refl
 
-lt-turned : (x y : Float) → lt (neg x) (neg y) ≡ lt y x
+pub lt-turned : (x y : Float) → lt (neg x) (neg y) ≡ lt y x
 unfolding neg lt
 lt-turned nan nan = refl
 lt-turned nan (inf t) = refl
