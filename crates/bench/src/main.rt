@@ -1,4 +1,6 @@
-// Bench cases that are run: document 01's first ticks 130, 190 and 250 and every refusal, and document 02's quiet start with low flow, which is proved too, and night of a leak with low flow. What it prints is held to the file stdout.
+// Bench cases that are run: document 01's first ticks 130, 190 and 250 and every refusal, and document 02's quiet start with low flow, which is proved too, night of a leak with low flow, and dead bands with their memory (dead_bands.rt). What it prints is held to the file stdout.
+mod dead_bands;
+
 use air_box::AirBox;
 use air_box::AirBoxStep;
 use air_box::Answer;
@@ -214,4 +216,8 @@ fn main() {
     refusals_of_readings();
     quiet_start();
     leak_and_low_flow();
+    dead_bands::flow_of_0_145();
+    dead_bands::hysteresis_bands();
+    dead_bands::less_bands();
+    dead_bands::greater_bands();
 }
