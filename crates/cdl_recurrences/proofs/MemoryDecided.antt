@@ -1,15 +1,15 @@
 -- Memory decides a dead-band comparison exactly where its two tests disagree; over the thresholds that is the claim of N2. Assumes nothing.
-use mathlib.Core.Path.{_≡_, refl, sym, ap, _∙_, subst}
+use mathlib.Core.Path.{_≡_, refl, sym}
 use mathlib.Core.Logic.{_↔_, _⊎_, inl, inr, ⊎-elim}
 use mathlib.Core.Bool.{Bool, true, false, not, xor, _&&_, _||_, true≢false}
 use lib.Dec.{T}
-use lib.Ieee.{Float, nan, inf, fin, binary64, neg, add, sub, mul, lt, le, isNan, fits, round}
-use Rattle.f64_helpers.specs.F64.{_⊕_, _⊖_, _<ᶠ_, _>ᶠ_, _≤ᶠ_, _≥ᶠ_, zero}
-use Rattle.f64_helpers.proofs.Order.{le-lt, lt-le, lt→le, number-at-most, number-below}
+use lib.Ieee.{Float, binary64, neg, add, sub, mul, lt, isNan, fits, round}
+use Rattle.f64_helpers.specs.F64.{_⊕_, _⊖_, _<ᶠ_, _>ᶠ_, _≥ᶠ_, zero}
+use Rattle.f64_helpers.proofs.Order.{le-lt, lt-le, lt→le, in-order, number-at-most, number-below}
 use Rattle.f64_helpers.proofs.Sums.{nan-sum, nan-difference, below-raised, above-raised, below-lowered, above-lowered}
 use Rattle.cdl_recurrences.specs.CdlRecurrences.{hysteresis, less-hysteretic, greater-hysteretic, decided-by-memory, dead-band-output}
 use Rattle.cdl_recurrences.specs.CdlPieces.{dead-band-by-tests}
-use Rattle.cdl_recurrences.specs.MemoryDecided.{Decided, no-whatever-it-was, HysteresisBand, LessBand, GreaterBand, flow-high, MemoryDecided}
+use Rattle.cdl_recurrences.specs.MemoryDecided.{Decided, no-whatever-it-was, HysteresisBand, LessBand, GreaterBand, MemoryDecided}
 
 -- ---- two tests that are settled
 -- the answer by the test that counts where the memory is off and the one that counts where it is on
@@ -126,6 +126,7 @@ memory-decided = record {
   hysteresis-band = hysteresis-band;
   less-band = less-band;
   greater-band = greater-band;
+  nothing-left-out = in-order;
   after-0-16 = refl;
   as-first-flow = refl;
 }

@@ -1,4 +1,5 @@
--- The pieces in which the code of this crate computes `dead-band-output` and `true-delay-output` of CdlRecurrences.antt, under the names of their functions.
+-- The pieces in which the code of this crate computes `dead-band-output` and `true-delay-output` of CdlRecurrences.antt,
+-- under the names of their functions.
 -- The proofs of the callers tie them to the wholes; a reader of those need not open this file.
 use mathlib.Core.Bool.{Bool, true, not, xor, _&&_, _||_}
 use lib.Ieee.{Float}

@@ -1,13 +1,18 @@
 -- Document 02, N2: when memory decided. What `decided-by-memory` comes to for each of the three comparisons, over their thresholds.
--- No hypothesis leaves an input out: every h is from 0 on, below 0 or a NaN, and of two ends the low one is not above the high one,
--- it is above, or one of them is a NaN. `fits binary64 u2` says that u2 is an f64, as every argument of the code is.
+-- `fits binary64 u2` says that u2 is an f64, as every argument of the code is.
 use mathlib.Core.Path.{_≡_}
 use mathlib.Core.Logic.{_↔_, _⊎_}
 use mathlib.Core.Bool.{Bool, true, false, not, _&&_}
 use lib.Dec.{T}
 use lib.Ieee.{Float, binary64, fits, isNan}
 use Rattle.f64_helpers.specs.F64.{_⊕_, _⊖_, _⊗_, _<ᶠ_, _>ᶠ_, _≤ᶠ_, _≥ᶠ_, decimal, zero}
-use Rattle.cdl_recurrences.specs.CdlRecurrences.{hysteresis, less-hysteretic, greater-hysteretic, decided-by-memory, dead-band-output}
+use Rattle.cdl_recurrences.specs.CdlRecurrences.{
+  hysteresis,
+  less-hysteretic,
+  greater-hysteretic,
+  decided-by-memory,
+  dead-band-output,
+}
 use Rattle.cdl_recurrences.specs.declared.DeadBandOutput.{DeadBandOutput}
 
 -- Memory decided exactly if the reading lies in the band, and the answer there is `given`.
@@ -56,6 +61,9 @@ pub record MemoryDecided : Type 0 where
   pub hysteresis-band : (u u-low u-high : Float) (previous : Bool) → HysteresisBand u u-low u-high previous
   pub less-band : (u1 u2 h : Float) (previous : Bool) → T (fits binary64 u2) → LessBand u1 u2 h previous
   pub greater-band : (u1 u2 h : Float) (previous : Bool) → T (fits binary64 u2) → GreaterBand u1 u2 h previous
+  -- 0 and any h, or a low and a high end, are in one of the orders that are asked for there
+  pub nothing-left-out : (x y : Float) → T (x ≤ᶠ y) ⊎ (T (y <ᶠ x) ⊎ (T (isNan x) ⊎ T (isNan y)))
   -- a flow of 0.145: high by memory after one of 0.16, not high by memory as a first flow
-  pub after-0-16 : flow-high (decimal 145 1000) (flow-high (decimal 16 100) false .output) ≡ record { output = true; «decided_by_memory» = true }
+  pub after-0-16 : flow-high (decimal 145 1000) (flow-high (decimal 16 100) false .output)
+      ≡ record { output = true; «decided_by_memory» = true }
   pub as-first-flow : flow-high (decimal 145 1000) false ≡ record { output = false; «decided_by_memory» = true }

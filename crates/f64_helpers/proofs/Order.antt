@@ -1,6 +1,6 @@
 -- The order of all floats, a NaN, the infinities and zeros of either sign included: `<` and `<=` pass from one pair to the next, and of two numbers one is less exactly if the other is not at most it. Assumes nothing.
 use mathlib.Core.Path.{_≡_, refl, sym, ap, _∙_, subst}
-use mathlib.Core.Logic.{_↔_, _⊎_, ⊎-elim}
+use mathlib.Core.Logic.{_↔_, _⊎_, inl, inr, ⊎-elim}
 use Prim.Native.Nat.{ℕ, _+_, _*_, _≤_, _<_}
 use native.Mathlib.Nat.{zero-mul, zero-add, add-zero, add-comm, add-mul, mul-comm, mul-assoc, mul-le-mul-right, le-of-mul-le-mul-right}
 use native.Mathlib.Omega.{arith}
@@ -132,6 +132,15 @@ lt-is-not-le (fin s m e) (fin t n d) p q =
     let a = m * up e * down d in
     let b = n * up d * down e in
     below-is s t a b ∙ sym (Bool·not-not (ltb (plus s a + plus (not t) b) (plus t b + plus (not s) a))) ∙ ap not (sym (at-most-is t s b a))
+
+pub in-order : (x y : Float) → T (le x y) ⊎ (T (lt y x) ⊎ (T (isNan x) ⊎ T (isNan y)))
+in-order x y = go (le x y) (isNan x) (isNan y) (lt-is-not-le y x)
+  where
+    go : (l p q : Bool) → (T (not q) → T (not p) → lt y x ≡ not l) → T l ⊎ (T (lt y x) ⊎ (T p ⊎ T q))
+    go true p q e = inl tt
+    go false true q e = inr (inr (inl tt))
+    go false false true e = inr (inr (inr tt))
+    go false false false e = inr (inl (subst T (sym (e tt tt)) tt))
 
 pub lt→le : (x y : Float) → T (lt x y) → T (le x y)
 unfolding le

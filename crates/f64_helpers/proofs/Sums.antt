@@ -6,7 +6,7 @@ use native.Mathlib.Nat.{add-comm, add-mul, lt-of-mul-lt-mul-right, le-of-suc-le-
 use native.Mathlib.Omega.{arith}
 use mathlib.Core.Bool.{Bool, true, false, not, _&&_, _||_, Bool·beq, cond, Bool·not-not}
 use lib.IntN.{ℤ, pos, negsuc}
-use lib.Dec.{T, T-not, ltb, leb, eqb, eqb-refl, ltb→lt, leb→le, nltb→le}
+use lib.Dec.{T, ltb, leb, eqb, eqb-refl, ltb→lt, leb→le, nltb→le}
 use lib.Pow.{pow-add, pow-pos, pow-lt}
 use lib.Ieee.{Float, nan, inf, fin, Format, binary64, prec, emax, low, up, down, round, level, neg, sum, add, sub, lt, eq, le, isNan, fits}
 use lib.Ieee.Fits.{and-i, and-l, and-r, down-pos}
