@@ -1,5 +1,6 @@
 // Document 02, N2: what the dead-band comparisons say of their memory. First a flow of 0.145 in a box, then both ends of every dead band of the controller.
 use super::flag;
+use super::number;
 use super::print;
 use super::tick_of;
 use air_box::AirBox;
@@ -10,15 +11,19 @@ use cdl_recurrences::hysteresis;
 use cdl_recurrences::less_hysteretic;
 use libc::STDOUT_FILENO;
 
-// A tick with this flow. The comparison is the alarms stage's, at the memory that the box had; its answer has to be the box's next memory.
-fn show_flow(b: AirBox, t: f64, flow: f64, high: &[u8], by_memory: &[u8]) -> AirBox {
-    let next = b.tick(tick_of(t, 296.0, 600.0, flow, 0, 0, false)).state;
+// An accepted tick with this flow. The comparison is the alarms stage's, at the memory that the box had; its answer has to be the box's next memory.
+fn show_flow(b: AirBox, t: f64, flow: f64, is_high: &[u8], decided: &[u8]) -> AirBox {
+    let step = b.tick(tick_of(t, 296.0, 600.0, flow, 0, 0, false));
+    if number(step) != 0 {
+        os::fail(b"bench: a flow is refused");
+    }
+    let next = step.state;
     let compared = greater_hysteretic(flow, 0.1 * 1.5, 0.01, b.state.alarms.flow_high);
     if compared.output != next.state.alarms.flow_high {
         os::fail(b"bench: the box tells another flow high");
     }
-    print(high, flag(compared.output));
-    print(by_memory, flag(compared.decided_by_memory));
+    print(is_high, flag(compared.output));
+    print(decided, flag(compared.decided_by_memory));
     next
 }
 
@@ -140,7 +145,7 @@ fn greater_band(label: &[u8], u2: f64, h: f64, lowest: f64, above: f64) {
     );
 }
 
-pub fn hysteresis_bands() {
+pub fn zone_state_bands() {
     hysteresis_band(
         b"heating_signal, cooling_signal",
         0.009999999999999998,
@@ -155,6 +160,9 @@ pub fn hysteresis_bands() {
         0.01,
         0.010000000000000002,
     );
+}
+
+pub fn request_bands() {
     hysteresis_band(
         b"hot_three",
         2.7499999999999996,
@@ -185,7 +193,7 @@ pub fn hysteresis_bands() {
     );
 }
 
-// Where the band moves with another reading, that stands at a usual number.
+// Where a band moves with another reading, that stands at a usual number, here and in `greater_bands`.
 pub fn less_bands() {
     less_band(
         b"cooling_enable, heating_enable",

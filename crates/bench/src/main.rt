@@ -217,7 +217,8 @@ fn main() {
     quiet_start();
     leak_and_low_flow();
     dead_bands::flow_of_0_145();
-    dead_bands::hysteresis_bands();
+    dead_bands::zone_state_bands();
+    dead_bands::request_bands();
     dead_bands::less_bands();
     dead_bands::greater_bands();
 }

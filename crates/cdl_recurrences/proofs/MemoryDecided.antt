@@ -1,7 +1,7 @@
 -- Memory decides a dead-band comparison exactly where its two tests disagree; over the thresholds that is the claim of N2. Assumes nothing.
 use mathlib.Core.Path.{_≡_, refl, sym}
 use mathlib.Core.Logic.{_↔_, _⊎_, inl, inr, ⊎-elim}
-use mathlib.Core.Bool.{Bool, true, false, not, xor, _&&_, _||_, true≢false}
+use mathlib.Core.Bool.{Bool, true, false, not, xor, _&&_, true≢false}
 use lib.Dec.{T}
 use lib.Ieee.{Float, binary64, neg, add, sub, mul, lt, isNan, fits, round}
 use Rattle.f64_helpers.specs.F64.{_⊕_, _⊖_, _<ᶠ_, _>ᶠ_, _≥ᶠ_, zero}
@@ -9,12 +9,13 @@ use Rattle.f64_helpers.proofs.Order.{le-lt, lt-le, lt→le, in-order, number-at
 use Rattle.f64_helpers.proofs.Sums.{nan-sum, nan-difference, below-raised, above-raised, below-lowered, above-lowered}
 use Rattle.cdl_recurrences.specs.CdlRecurrences.{hysteresis, less-hysteretic, greater-hysteretic, decided-by-memory, dead-band-output}
 use Rattle.cdl_recurrences.specs.CdlPieces.{dead-band-by-tests}
+use Rattle.cdl_recurrences.specs.DeadBand.{dead-band}
 use Rattle.cdl_recurrences.specs.MemoryDecided.{Decided, no-whatever-it-was, HysteresisBand, LessBand, GreaterBand, MemoryDecided}
 
 -- ---- two tests that are settled
 -- the answer by the test that counts where the memory is off and the one that counts where it is on
 abbrev pub by-tests : Bool → Bool → Bool → Bool
-by-tests turns-on stays-on previous = (not previous && turns-on) || (previous && stays-on)
+by-tests turns-on stays-on previous = dead-band {A = Unit} (λ x. turns-on) (λ x. stays-on) previous tt
 
 tests-disagree : (turns-on stays-on previous : Bool) → decided-by-memory (by-tests turns-on stays-on) previous ≡ xor turns-on stays-on
 unfolding decided-by-memory xor

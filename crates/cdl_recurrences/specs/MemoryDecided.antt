@@ -20,6 +20,7 @@ pub record Decided (answer : Bool → Bool) (previous in-band given : Bool) : Ty
   pub exactly : decided-by-memory answer previous ≡ in-band
   pub answer-there : T in-band → answer previous ≡ given
 
+-- what a NaN as a reading gives, or as what it is compared with
 abbrev pub no-whatever-it-was : DeadBandOutput
 no-whatever-it-was = record { output = false; «decided_by_memory» = false }
 
@@ -34,20 +35,25 @@ pub record HysteresisBand (u u-low u-high : Float) (previous : Bool) : Type 0 wh
   pub reading-nan : T (isNan u) → dead-band-output (hysteresis u u-low u-high) previous ≡ no-whatever-it-was
 
 pub record LessBand (u1 u2 h : Float) (previous : Bool) : Type 0 where
-  -- not below u2, and below u2 + h
+  -- not below u2, and below u2 + h: the answer stays what it was
   pub upright : T (zero ≤ᶠ h) → Decided (less-hysteretic u1 u2 h) previous (not (u1 <ᶠ u2) && (u1 <ᶠ u2 ⊕ h)) previous
+  -- turned round, below u2 and not below u2 + h: the answer is never what it was
   pub turned-round : T (h <ᶠ zero) → Decided (less-hysteretic u1 u2 h) previous ((u1 <ᶠ u2) && not (u1 <ᶠ u2 ⊕ h)) (not previous)
+  -- with a NaN for h nothing keeps it on
   pub h-nan : T (isNan h) → Decided (less-hysteretic u1 u2 h) previous (u1 <ᶠ u2) (not previous)
   pub nan-compared : T (isNan u1) ⊎ T (isNan u2) → dead-band-output (less-hysteretic u1 u2 h) previous ≡ no-whatever-it-was
 
 pub record GreaterBand (u1 u2 h : Float) (previous : Bool) : Type 0 where
-  -- not above u2, and above u2 - h
+  -- not above u2, and above u2 - h: the answer stays what it was
   pub upright : T (zero ≤ᶠ h) → Decided (greater-hysteretic u1 u2 h) previous (not (u1 >ᶠ u2) && (u1 >ᶠ u2 ⊖ h)) previous
+  -- turned round, above u2 and not above u2 - h: the answer is never what it was
   pub turned-round : T (h <ᶠ zero) → Decided (greater-hysteretic u1 u2 h) previous ((u1 >ᶠ u2) && not (u1 >ᶠ u2 ⊖ h)) (not previous)
+  -- with a NaN for h nothing keeps it on
   pub h-nan : T (isNan h) → Decided (greater-hysteretic u1 u2 h) previous (u1 >ᶠ u2) (not previous)
   pub nan-compared : T (isNan u1) ⊎ T (isNan u2) → dead-band-output (greater-hysteretic u1 u2 h) previous ≡ no-whatever-it-was
 
--- whether a flow counts as high in the alarms stage, and whether memory decided that, after what it was before
+-- Whether a flow counts as high, and whether memory decided that, after what it was before: `flow-high` of `alarms`, whose numbers
+-- these are.
 abbrev pub flow-high : Float → Bool → DeadBandOutput
 flow-high flow = dead-band-output (greater-hysteretic flow (decimal 1 10 ⊗ decimal 15 10) (decimal 1 100))
 
@@ -61,7 +67,7 @@ pub record MemoryDecided : Type 0 where
   pub hysteresis-band : (u u-low u-high : Float) (previous : Bool) → HysteresisBand u u-low u-high previous
   pub less-band : (u1 u2 h : Float) (previous : Bool) → T (fits binary64 u2) → LessBand u1 u2 h previous
   pub greater-band : (u1 u2 h : Float) (previous : Bool) → T (fits binary64 u2) → GreaterBand u1 u2 h previous
-  -- 0 and any h, or a low and a high end, are in one of the orders that are asked for there
+  -- nor is an h or a pair of ends left out: with 0 and h for x and y, or the low and the high end, one of these holds
   pub nothing-left-out : (x y : Float) → T (x ≤ᶠ y) ⊎ (T (y <ᶠ x) ⊎ (T (isNan x) ⊎ T (isNan y)))
   -- a flow of 0.145: high by memory after one of 0.16, not high by memory as a first flow
   pub after-0-16 : flow-high (decimal 145 1000) (flow-high (decimal 16 100) false .output)

@@ -54,23 +54,23 @@ pub fn clamp(value: f64, min: f64, max: f64) -> f64
 pub fn hysteresis(u: f64, u_low: f64, u_high: f64, previous: bool) -> DeadBandOutput
     ensures { λ r. ⌜ r ≡ Cdl.dead-band-output (Cdl.hysteresis u «u_low» «u_high») previous ⌝ }
 {
-    dead_band_output(previous, u > u_high, u >= u_low)
+    dead_band_by_tests(previous, u > u_high, u >= u_low)
 }
 
 pub fn less_hysteretic(u1: f64, u2: f64, h: f64, previous: bool) -> DeadBandOutput
     ensures { λ r. ⌜ r ≡ Cdl.dead-band-output (Cdl.less-hysteretic u1 u2 h) previous ⌝ }
 {
-    dead_band_output(previous, u1 < u2, u1 < u2 + h)
+    dead_band_by_tests(previous, u1 < u2, u1 < u2 + h)
 }
 
 pub fn greater_hysteretic(u1: f64, u2: f64, h: f64, previous: bool) -> DeadBandOutput
     ensures { λ r. ⌜ r ≡ Cdl.dead-band-output (Cdl.greater-hysteretic u1 u2 h) previous ⌝ }
 {
-    dead_band_output(previous, u1 > u2, u1 > u2 - h)
+    dead_band_by_tests(previous, u1 > u2, u1 > u2 - h)
 }
 
-// Off asks the first test, on the second: the memory decides where the two disagree.
-fn dead_band_output(previous: bool, turns_on: bool, stays_on: bool) -> DeadBandOutput
+// Off goes by the first test, on by the second, so memory decides where the two disagree.
+fn dead_band_by_tests(previous: bool, turns_on: bool, stays_on: bool) -> DeadBandOutput
     ensures { λ r. ⌜ r ≡ CdlPieces.dead-band-by-tests previous «turns_on» «stays_on» ⌝ }
 {
     DeadBandOutput {

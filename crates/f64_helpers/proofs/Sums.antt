@@ -14,7 +14,7 @@ use lib.Ieee.Exact.{HasValue, round-exact}
 use lib.Ieee.Scale.{round-same}
 use lib.Ieee.Order.{round-mono}
 use Rattle.f64_helpers.specs.F64.{zero as zeroᶠ}
-use Rattle.f64_helpers.proofs.Order.{plus, plus-mul, fractions, le-numbers, le-trans, lt-is-not-le, lt→le, eq→le, not-both, le-lt, lt-le, number-below}
+use Rattle.f64_helpers.proofs.Order.{plus, plus-mul, fractions, le-numbers, le-trans, lt-is-not-le, eq→le, not-both, le-lt, lt-le, number-below}
 use Rattle.f64_helpers.proofs.Negation.{neg-round}
 use Rattle.f64_helpers.proofs.Signs.{nan-turned, lt-turned}
 
@@ -233,11 +233,11 @@ Highest x = (u : Float) → T (lt x u) → ⊥
 
 below-nan : Lowest nan
 unfolding isNan
-below-nan u h = le-numbers u nan (lt→le u nan h) .1
+below-nan u h = number-below u nan (inr tt) h
 
 above-nan : Highest nan
 unfolding isNan
-above-nan u h = le-numbers nan u (lt→le nan u h) .0
+above-nan u h = number-below nan u (inl tt) h
 
 below-all : Lowest (inf true)
 unfolding le

@@ -11,7 +11,7 @@ returns : tie.Need-returns
 unfolding hysteresis
 returns c =
     let a = c .before .args in
-    c .dead-band-output .ensures ∙ output-by-tests (a .u >ᶠ a .u-high) (a .u ≥ᶠ a .u-low) (a .previous)
+    c .dead-band-by-tests .ensures ∙ output-by-tests (a .u >ᶠ a .u-high) (a .u ≥ᶠ a .u-low) (a .previous)
 
 pub hysteresis-spec : {M : Type 1} → statement M
 hysteresis-spec = tie.close (tie.spec (λ c κs. search needs) returns)

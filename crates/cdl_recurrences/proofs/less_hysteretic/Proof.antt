@@ -11,7 +11,7 @@ returns : tie.Need-returns
 unfolding less-hysteretic
 returns c =
     let a = c .before .args in
-    c .dead-band-output .ensures ∙ output-by-tests (a .u1 <ᶠ a .u2) (a .u1 <ᶠ a .u2 ⊕ a .h) (a .previous)
+    c .dead-band-by-tests .ensures ∙ output-by-tests (a .u1 <ᶠ a .u2) (a .u1 <ᶠ a .u2 ⊕ a .h) (a .previous)
 
 pub less-hysteretic-spec : {M : Type 1} → statement M
 less-hysteretic-spec = tie.close (tie.spec (λ c κs. search needs) returns)
