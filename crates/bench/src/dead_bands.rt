@@ -11,44 +11,52 @@ use cdl_recurrences::hysteresis;
 use cdl_recurrences::less_hysteretic;
 use libc::STDOUT_FILENO;
 
-// An accepted tick with this flow. The comparison is the alarms stage's, at the memory that the box had; its answer has to be the box's next memory.
-fn show_flow(b: AirBox, t: f64, flow: f64, is_high: &[u8], decided: &[u8]) -> AirBox {
+// The box after a tick with this flow, which has to be accepted.
+fn after_flow(b: AirBox, t: f64, flow: f64) -> AirBox {
     let step = b.tick(tick_of(t, 296.0, 600.0, flow, 0, 0, false));
     if number(step) != 0 {
         os::fail(b"bench: a flow is refused");
     }
-    let next = step.state;
-    let compared = greater_hysteretic(flow, 0.1 * 1.5, 0.01, b.state.alarms.flow_high);
-    if compared.output != next.state.alarms.flow_high {
+    step.state
+}
+
+// What the alarms stage's comparison says of a flow, at the memory of the box before it. The answer has to be the memory of the box after it.
+fn show_flow(is_high: &[u8], decided: &[u8], flow: f64, before: bool, after: bool) {
+    let compared = greater_hysteretic(flow, 0.1 * 1.5, 0.01, before);
+    if compared.output != after {
         os::fail(b"bench: the box tells another flow high");
     }
     print(is_high, flag(compared.output));
     print(decided, flag(compared.decided_by_memory));
-    next
 }
 
 pub fn flow_of_0_145() {
     let fresh = AirBox::fresh(Start::Plain);
+    let before_any = fresh.state.alarms.flow_high;
+    let after_0_145 = after_flow(fresh, 0.0, 0.145).state.alarms.flow_high;
     show_flow(
-        fresh,
-        0.0,
-        0.145,
         b"first flow 0.145 is high",
         b"first flow 0.145 by memory",
+        0.145,
+        before_any,
+        after_0_145,
     );
-    let later = show_flow(
-        fresh,
-        0.0,
-        0.16,
+    let b = after_flow(fresh, 0.0, 0.16);
+    let after_0_16 = b.state.alarms.flow_high;
+    show_flow(
         b"flow 0.16 is high",
         b"flow 0.16 by memory",
+        0.16,
+        before_any,
+        after_0_16,
     );
+    let after_both = after_flow(b, 60.0, 0.145).state.alarms.flow_high;
     show_flow(
-        later,
-        60.0,
-        0.145,
         b"flow 0.145 after 0.16 is high",
         b"flow 0.145 after 0.16 by memory",
+        0.145,
+        after_0_16,
+        after_both,
     );
 }
 
