@@ -81,6 +81,7 @@ hysteresis-band u u-low u-high previous =
       turned-round = λ l. turned on stay previous (λ p. lt-le u-high u-low u l p);
       low-nan = λ n. only-turning on stay previous (number-at-most u-low u (inl n));
       high-nan = λ n. only-staying on stay previous (number-below u-high u (inl n));
+      ends-nan = λ l h. neither on stay previous (number-below u-high u (inl h)) (number-at-most u-low u (inl l));
       reading-nan = λ n. neither on stay previous (number-below u-high u (inr n)) (number-at-most u-low u (inr n));
     }
 

@@ -20,7 +20,7 @@ pub record Decided (answer : Bool → Bool) (previous in-band given : Bool) : Ty
   pub exactly : decided-by-memory answer previous ≡ in-band
   pub answer-there : T in-band → answer previous ≡ given
 
--- what a NaN as a reading gives, or as what it is compared with
+-- what a NaN as a reading gives, or as what it is compared with: u2, or both ends
 abbrev pub no-whatever-it-was : DeadBandOutput
 no-whatever-it-was = record { output = false; «decided_by_memory» = false }
 
@@ -32,6 +32,8 @@ pub record HysteresisBand (u u-low u-high : Float) (previous : Bool) : Type 0 wh
   -- with a NaN for an end the test at the other end is left
   pub low-nan : T (isNan u-low) → Decided (hysteresis u u-low u-high) previous (u >ᶠ u-high) (not previous)
   pub high-nan : T (isNan u-high) → Decided (hysteresis u u-low u-high) previous (u ≥ᶠ u-low) previous
+  -- with a NaN for both ends, or as a reading, neither test passes
+  pub ends-nan : T (isNan u-low) → T (isNan u-high) → dead-band-output (hysteresis u u-low u-high) previous ≡ no-whatever-it-was
   pub reading-nan : T (isNan u) → dead-band-output (hysteresis u u-low u-high) previous ≡ no-whatever-it-was
 
 pub record LessBand (u1 u2 h : Float) (previous : Bool) : Type 0 where
@@ -53,7 +55,7 @@ pub record GreaterBand (u1 u2 h : Float) (previous : Bool) : Type 0 where
   pub nan-compared : T (isNan u1) ⊎ T (isNan u2) → dead-band-output (greater-hysteretic u1 u2 h) previous ≡ no-whatever-it-was
 
 -- Whether a flow counts as high, and whether memory decided that, after what it was before: `flow-high` of `alarms`, whose numbers
--- these are.
+-- these are (`flow-high-compared`, a law of the alarms stage).
 abbrev pub flow-high : Float → Bool → DeadBandOutput
 flow-high flow = dead-band-output (greater-hysteretic flow (decimal 1 10 ⊗ decimal 15 10) (decimal 1 100))
 
