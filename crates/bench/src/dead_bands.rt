@@ -24,7 +24,7 @@ fn after_flow(b: AirBox, t: f64, flow: f64) -> AirBox {
 fn show_flow(is_high: &[u8], decided: &[u8], flow: f64, before: bool, after: bool) {
     let compared = greater_hysteretic(flow, 0.1 * 1.5, 0.01, before);
     if compared.output != after {
-        os::fail(b"bench: the box tells another flow high");
+        os::fail(b"bench: the box keeps another answer");
     }
     print(is_high, flag(compared.output));
     print(decided, flag(compared.decided_by_memory));
