@@ -1,11 +1,13 @@
-// Bench cases that are run: document 01's first ticks 130, 190 and 250 and every refusal, and document 02's quiet start with low flow, which is proved too, night of a leak with low flow, and dead bands with their memory (dead_bands.rt). What it prints is held to the file stdout.
-mod dead_bands;
-
+// Bench cases that are run: document 01's first ticks 130, 190 and 250 and every refusal, and document 02's quiet start with low flow, which is proved too, night of a leak with low flow, and dead bands with their memory. What it prints is held to the file stdout.
 use air_box::AirBox;
 use air_box::AirBoxStep;
 use air_box::Answer;
 use air_box::Start;
 use air_box::Tick;
+use cdl_recurrences::DeadBandOutput;
+use cdl_recurrences::greater_hysteretic;
+use cdl_recurrences::hysteresis;
+use cdl_recurrences::less_hysteretic;
 use cooling_only_controller::ControllerInput;
 use libc::STDOUT_FILENO;
 
@@ -210,15 +212,176 @@ fn leak_and_low_flow() {
     }
 }
 
+// 1 or 0, and 2 where what is seen does not hold together.
+fn flag_if(sound: bool, b: bool) -> u64 {
+    if sound { flag(b) } else { 2 }
+}
+
+// What a box keeps as flow high after a tick with this flow, and whether memory decided that, by the alarms stage's comparison at the memory from before. The tick has to be accepted, and the two answers the same.
+fn print_flow(is_high: &[u8], decided: &[u8], flow: f64, before: bool, step: AirBoxStep) {
+    let compared = greater_hysteretic(flow, 0.1 * 1.5, 0.01, before);
+    let after = step.state.state.alarms.flow_high;
+    let sound = (number(step) == 0) & (compared.output == after);
+    print(is_high, flag_if(sound, after));
+    print(decided, flag_if(sound, compared.decided_by_memory));
+}
+
+fn flow_at(t: f64, flow: f64) -> Tick {
+    tick_of(t, 296.0, 600.0, flow, 0, 0, false)
+}
+
+fn flow_of_0_145() {
+    let fresh = AirBox::fresh(Start::Plain);
+    let before_any = fresh.state.alarms.flow_high;
+    print_flow(
+        b"first flow 0.145 is high",
+        b"first flow 0.145 by memory",
+        0.145,
+        before_any,
+        fresh.tick(flow_at(0.0, 0.145)),
+    );
+    let after_0_16 = fresh.tick(flow_at(0.0, 0.16));
+    print_flow(
+        b"flow 0.16 is high",
+        b"flow 0.16 by memory",
+        0.16,
+        before_any,
+        after_0_16,
+    );
+    let b = after_0_16.state;
+    print_flow(
+        b"flow 0.145 after 0.16 is high",
+        b"flow 0.145 after 0.16 by memory",
+        0.145,
+        b.state.alarms.flow_high,
+        b.tick(flow_at(60.0, 0.145)),
+    );
+}
+
+// Whether memory decides at a reading. Both flags have to say so, and both answers bear it out.
+fn by_memory(off: DeadBandOutput, on: DeadBandOutput) -> u64 {
+    let differ = off.output != on.output;
+    flag_if(
+        (off.decided_by_memory == differ) & (on.decided_by_memory == differ),
+        differ,
+    )
+}
+
+fn hysteresis_by_memory(u: f64, low: f64, high: f64) -> u64 {
+    by_memory(
+        hysteresis(u, low, high, false),
+        hysteresis(u, low, high, true),
+    )
+}
+
+fn less_by_memory(u1: f64, u2: f64, h: f64) -> u64 {
+    by_memory(
+        less_hysteretic(u1, u2, h, false),
+        less_hysteretic(u1, u2, h, true),
+    )
+}
+
+fn greater_by_memory(u1: f64, u2: f64, h: f64) -> u64 {
+    by_memory(
+        greater_hysteretic(u1, u2, h, false),
+        greater_hysteretic(u1, u2, h, true),
+    )
+}
+
+// No f64 lies between the two: half way rounds to one of them.
+fn neighbours(lower: f64, upper: f64) -> bool {
+    let half_way = 0.5 * (lower + upper);
+    (lower < upper) & ((half_way == lower) | (half_way == upper))
+}
+
+// More than half of x's last place and hardly more than one: added or taken away, it rounds to the next f64.
+fn part_of_last_place(x: f64) -> f64 {
+    1.1102230246251568e-16 * f64_helpers::abs(x)
+}
+
+// The next f64 above x; x itself where that is not found, and then the row is another.
+fn next_up(x: f64) -> f64 {
+    let up = x + part_of_last_place(x);
+    f64_helpers::choose(neighbours(x, up), up, x)
+}
+
+fn next_down(x: f64) -> f64 {
+    let down = x - part_of_last_place(x);
+    f64_helpers::choose(neighbours(down, x), down, x)
+}
+
+fn print_next(n: u64) -> bool {
+    io::write_all(STDOUT_FILENO, b" ") && io::print_decimal(STDOUT_FILENO, n)
+}
+
+// The f64 outside of the low end, the one inside of it, the one inside of the high end, the one outside of it.
+fn print_ends(label: &[u8], below: u64, lowest: u64, highest: u64, above: u64) {
+    if !(io::write_all(STDOUT_FILENO, b"by memory at both ends of ")
+        && io::write_all(STDOUT_FILENO, label)
+        && print_next(below)
+        && print_next(lowest)
+        && print_next(highest)
+        && print_next(above)
+        && io::write_all(STDOUT_FILENO, b"\n")) {
+        os::fail(b"bench: cannot write");
+    }
+}
+
+fn hysteresis_band(label: &[u8], low: f64, high: f64) {
+    print_ends(
+        label,
+        hysteresis_by_memory(next_down(low), low, high),
+        hysteresis_by_memory(low, low, high),
+        hysteresis_by_memory(high, low, high),
+        hysteresis_by_memory(next_up(high), low, high),
+    );
+}
+
+fn less_band(label: &[u8], u2: f64, h: f64) {
+    print_ends(
+        label,
+        less_by_memory(next_down(u2), u2, h),
+        less_by_memory(u2, u2, h),
+        less_by_memory(next_down(u2 + h), u2, h),
+        less_by_memory(u2 + h, u2, h),
+    );
+}
+
+fn greater_band(label: &[u8], u2: f64, h: f64) {
+    print_ends(
+        label,
+        greater_by_memory(u2 - h, u2, h),
+        greater_by_memory(next_up(u2 - h), u2, h),
+        greater_by_memory(u2, u2, h),
+        greater_by_memory(next_up(u2), u2, h),
+    );
+}
+
+// Every dead band of the controller. One that moves with another reading stands where that is at a usual number.
+fn dead_bands() {
+    hysteresis_band(b"heating_signal, cooling_signal", 0.01, 0.05);
+    hysteresis_band(b"heating_tiebreak", -0.01, 0.01);
+    hysteresis_band(b"hot_three", 2.75, 3.0);
+    hysteresis_band(b"hot_two", 1.75, 2.0);
+    hysteresis_band(b"cooling_high, damper_high", 0.94, 0.95);
+    hysteresis_band(b"setpoint_on, setpoint_nonzero", 0.005, 0.01);
+    less_band(b"cooling_enable, heating_enable", 297.0, 0.25);
+    less_band(b"cooling_near_zero, heating_near_zero", 0.01, 0.008);
+    less_band(b"low_half", 0.5 * 0.5, 0.01);
+    less_band(b"damper_closed", 0.01, 0.5 * 0.01);
+    greater_band(b"change_detected", 0.25, 0.5 * 0.25);
+    greater_band(b"cooling_supply", 288.0, 0.25);
+    greater_band(b"supply_warm", 296.0, 0.25);
+    greater_band(b"starved_half, starved_seventy, low_seventy", 0.3, 0.01);
+    greater_band(b"flow_high", 0.1 * 1.5, 0.01);
+}
+
 fn main() {
     first_ticks();
     refusals_of_time();
     refusals_of_readings();
     quiet_start();
     leak_and_low_flow();
-    dead_bands::flow_of_0_145();
-    dead_bands::zone_state_bands();
-    dead_bands::request_bands();
-    dead_bands::less_bands();
-    dead_bands::greater_bands();
+    flow_of_0_145();
+    dead_bands();
 }
