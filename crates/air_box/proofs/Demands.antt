@@ -244,5 +244,5 @@ demand-2 box k all = record {
   outputs = gives-outputs box k all;
   next-state = ap (λ (s : AirBoxStep). s .state .state) (tick-accepted box k all);
   last-time = ap (λ (s : AirBoxStep). s .state .«last_time») (tick-accepted box k all);
-  start-kept = ap (λ (s : AirBoxStep). s .state .start) (tick-accepted box k all);
+  choices-kept = ap (λ (s : AirBoxStep). s .state .choices) (tick-accepted box k all);
 }

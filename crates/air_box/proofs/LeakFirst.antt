@@ -12,6 +12,7 @@ use Rattle.f64_helpers.specs.F64.{decimal}
 use Rattle.f64_helpers.specs.Helpers.{max}
 use Rattle.f64_helpers.specs.Integers.{_==ᶻ_}
 use Rattle.f64_helpers.proofs.Integers.{equals-means}
+use Rattle.box_choices.specs.declared.Choices.{Choices}
 use Rattle.cdl_recurrences.specs.CdlRecurrences.{hysteresis, less-hysteretic, greater-hysteretic, true-delay-output}
 use Rattle.cooling_only_controller_timing.specs.Timing.{true-delay}
 use Rattle.cooling_only_controller_airflow.specs.Airflow.{damper, alarms}
@@ -21,7 +22,7 @@ use Rattle.cooling_only_controller_airflow.specs.declared.AlarmsState.{AlarmsSt
 use Rattle.cooling_only_controller_airflow.proofs.AlarmsByFan.{low-levels, sensor-levels, leak-levels, sensor-with-fan-on, low-with-fan-off, leak-with-fan-off}
 use Rattle.cooling_only_controller.specs.Controller.{controller-output}
 use Rattle.cooling_only_controller.specs.declared.ControllerOutput.{ControllerOutput}
-use Rattle.air_box.specs.AirBox.{questions, accepted-tick, tick, fresh-box, given-for, delay-on-init, desk-code}
+use Rattle.air_box.specs.AirBox.{questions, accepted-tick, tick, fresh-box, given-for, desk-code}
 use Rattle.air_box.specs.Demand2.{controller-step-of}
 use Rattle.air_box.specs.BenchTick.{bench-tick}
 use Rattle.air_box.specs.LeakFirst.{alarms-of, Shows, AtEveryTick, code, old-code, Low, ListOfChanges, SensorAlone, levels, Line, line-of, together, Among, Tells, OfAnyThree, LeakFirst}
@@ -31,14 +32,14 @@ use Rattle.air_box.specs.declared.Start.the-variants.{Plain}
 use Rattle.air_box.proofs.Demands.{demand-1, demand-2}
 
 -- ---- the alarms of an accepted tick are those of the stage
-stage : (box : AirBox) (k : Tick) → (input : AlarmInput) × (alarms-of (controller-step-of box k .output) ≡ alarms (box .state .alarms) (k .t) input (delay-on-init (box .start)) .output)
+stage : (box : AirBox) (k : Tick) → (input : AlarmInput) × (alarms-of (controller-step-of box k .output) ≡ alarms (box .state .alarms) (k .t) input (box .choices) .output)
 unfolding controller-output
 stage box k = (_, refl)
 
 same-output : (given : ControllerOutput ⊎ ℕ) (x y : ControllerOutput) → given ≡ inl x → given ≡ inl y → x ≡ y
 same-output given x y e f = cc
 
-shown-by-stage : (box : AirBox) (k : Tick) (a : AlarmOutput) → Shows box k a → alarms (box .state .alarms) (k .t) (stage box k .0) (delay-on-init (box .start)) .output ≡ a
+shown-by-stage : (box : AirBox) (k : Tick) (a : AlarmOutput) → Shows box k a → alarms (box .state .alarms) (k .t) (stage box k .0) (box .choices) .output ≡ a
 shown-by-stage box k a (output, given, same) =
     let all = demand-1 .outputs-if-all-yes box k .0 (output, given) in
     sym (stage box k .1) ∙ ap alarms-of (same-output (given-for box k) _ output (demand-2 box k all .outputs) given) ∙ same
@@ -66,12 +67,12 @@ unfolding desk-code
 with-fan-off a low leak (inr sensor) = inl (three-of a 0 0 0 low sensor leak)
 with-fan-off a low leak (inl sensor) = inr (inr (inr (inl (three-of a 0 3 0 low sensor leak))))
 
-of-stage : (s : AlarmsState) (t : Float) (input : AlarmInput) (delay-on-init : Bool) → Among (line-of (alarms s t input delay-on-init .output)) together
-of-stage s t input delay-on-init = by-fan (input .«supply_fan_status») refl
+of-stage : (s : AlarmsState) (t : Float) (input : AlarmInput) (choices : Choices) → Among (line-of (alarms s t input choices .output)) together
+of-stage s t input choices = by-fan (input .«supply_fan_status») refl
   where
-    by-fan : (fan : Bool) → input .«supply_fan_status» ≡ fan → Among (line-of (alarms s t input delay-on-init .output)) together
-    by-fan true e = with-fan-on _ (sensor-with-fan-on s t input delay-on-init e) (low-levels s t input delay-on-init) (leak-levels s t input delay-on-init)
-    by-fan false e = with-fan-off _ (low-with-fan-off s t input delay-on-init e) (leak-with-fan-off s t input delay-on-init e) (sensor-levels s t input delay-on-init)
+    by-fan : (fan : Bool) → input .«supply_fan_status» ≡ fan → Among (line-of (alarms s t input choices .output)) together
+    by-fan true e = with-fan-on _ (sensor-with-fan-on s t input choices e) (low-levels s t input choices) (leak-levels s t input choices)
+    by-fan false e = with-fan-off _ (low-with-fan-off s t input choices e) (leak-with-fan-off s t input choices e) (sensor-levels s t input choices)
 
 complete : AtEveryTick (λ a. Among (line-of a) together)
 complete box k a shows = subst (λ (x : AlarmOutput). Among (line-of x) together) (shown-by-stage box k a shows) (of-stage _ _ _ _)

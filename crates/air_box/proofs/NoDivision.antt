@@ -9,6 +9,7 @@ use Rattle.f64_helpers.specs.Helpers.{floor}
 use Rattle.f64_helpers.specs.Seconds.{IsTime, seconds, is-time}
 use Rattle.f64_helpers.proofs.WholeSeconds.{zero-whole}
 use Rattle.f64_helpers.proofs.Times.{decimal-whole, is-time-of, is-time-means}
+use Rattle.box_choices.specs.declared.Choices.{Choices}
 use Rattle.cdl_recurrences.specs.CdlRecurrences.{buildings-round-six, initial-sample-time}
 use Rattle.cdl_recurrences.specs.declared.OptionalTime.the-variants.{Absent}
 use Rattle.cdl_recurrences.proofs.SampleGrid.{round-six-time, multiple-is-time}
@@ -16,11 +17,10 @@ use Rattle.cooling_only_controller_timing.specs.Timing.{sampler-sample, unit-de
 use Rattle.cooling_only_controller_conditioning.specs.Conditioning.{SAMPLE_PERIOD, time-suppression}
 use Rattle.cooling_only_controller_airflow.specs.Airflow.{system-requests}
 use Rattle.cooling_only_controller.specs.Controller.{controller-output}
-use Rattle.air_box.specs.AirBox.{fresh-box}
+use Rattle.air_box.specs.AirBox.{unticked}
 use Rattle.air_box.specs.Demand2.{controller-step-of}
 use Rattle.air_box.specs.NoDivision.{as-it-came, multiple-before, GridsStartAt, NoDivision}
 use Rattle.air_box.specs.declared.Tick.{Tick}
-use Rattle.air_box.specs.declared.Start.{Start}
 use Rattle.air_box.proofs.Demands.{accepted-time, demand-2}
 
 multiple-among : (t : Float) → IsTime t → T (is-time (multiple-before t))
@@ -34,9 +34,9 @@ first-as-it-came : (t : Float) → IsTime t → initial-sample-time t SAMPLE_PER
 first-as-it-came t i = rw (rounded t) (round-six-time (multiple-before t) (mul-fits binary64 (floor (t ⊘ SAMPLE_PERIOD)) SAMPLE_PERIOD) (multiple-among t i))
 
 -- each grid of a fresh box starts by `initial-sample-time`
-grids-start : (start : Start) (k : Tick) → GridsStartAt (initial-sample-time (k .t) SAMPLE_PERIOD) (controller-step-of (fresh-box start) k .state)
+grids-start : (choices : Choices) (k : Tick) → GridsStartAt (initial-sample-time (k .t) SAMPLE_PERIOD) (controller-step-of (unticked choices) k .state)
 unfolding controller-output time-suppression system-requests sampler-sample unit-delay-sample
-grids-start start k = record { suppression-sampler = refl; previous-sample = refl; cooling-sampler = refl; setpoint-sampler = refl; discharge-sampler = refl; damper-sampler = refl }
+grids-start choices k = record { suppression-sampler = refl; previous-sample = refl; cooling-sampler = refl; setpoint-sampler = refl; discharge-sampler = refl; damper-sampler = refl }
 
 pub no-division : NoDivision
 no-division =
@@ -46,5 +46,5 @@ no-division =
       same = round-six-time;
       handed-on = rounded;
       accepted = λ box k all. multiple-among (k .t) (accepted-time (box .«last_time») k all);
-      first-tick = λ start k all. rw (demand-2 (fresh-box start) k all .next-state, sym (first-as-it-came (k .t) (accepted-time Absent k all))) (grids-start start k);
+      first-tick = λ choices k all. rw (demand-2 (unticked choices) k all .next-state, sym (first-as-it-came (k .t) (accepted-time Absent k all))) (grids-start choices k);
     }

@@ -1,5 +1,5 @@
--- The air box of document 01: the Rust's state with the last accepted time and the start choice beside it,
--- the questions asked of a tick, the quiet start and the desk code.
+-- The air box of document 01: the Rust's state with the last accepted time and what was chosen when it was built beside it,
+-- the questions asked of a tick, the quiet start, building (document 02, N13) and the desk code.
 use Prim.Native.Nat.{ℕ}
 use mathlib.Core.Bool.{Bool, true, false, not, _&&_}
 use mathlib.Core.Logic.{_⊎_, inl, inr}
@@ -8,6 +8,8 @@ use lib.Ieee.{Float, neg}
 use Rattle.f64_helpers.specs.F64.{_⊖_, _≤ᶠ_, _≥ᶠ_, decimal, zero, if_then_else_}
 use Rattle.f64_helpers.specs.Helpers.{is-whole}
 use Rattle.f64_helpers.specs.Integers.{_==ᶻ_}
+use Rattle.box_choices.specs.BoxChoices.{usual}
+use Rattle.box_choices.specs.declared.Choices.{Choices}
 use Rattle.cdl_recurrences.specs.declared.OptionalTime.{OptionalTime}
 use Rattle.cdl_recurrences.specs.declared.OptionalTime.the-variants.{Absent, At}
 use Rattle.cooling_only_controller.specs.Controller.{controller-output, fresh-controller}
@@ -18,6 +20,8 @@ use Rattle.air_box.specs.declared.Start.{Start}
 use Rattle.air_box.specs.declared.Start.the-variants.{Plain, Quiet}
 use Rattle.air_box.specs.declared.AirBox.{AirBox}
 use Rattle.air_box.specs.declared.AirBoxStep.{AirBoxStep}
+use Rattle.air_box.specs.declared.Built.{Built}
+use Rattle.air_box.specs.declared.Built.the-variants as Builts
 use Rattle.air_box.specs.declared.Answer.{Answer}
 use Rattle.air_box.specs.declared.Answer.the-variants.{Accepted, Refused}
 use Rattle.air_box.specs.declared.Refusal.{Refusal}
@@ -103,15 +107,20 @@ abbrev pub delay-on-init : Start → Bool
 delay-on-init Plain = false
 delay-on-init Quiet = true
 
+-- a box that has had no tick
+abbrev pub unticked : Choices → AirBox
+unticked choices = record { state = fresh-controller; «last_time» = Absent; choices = choices }
+
+-- the one that is built without naming design flows
 abbrev pub fresh-box : Start → AirBox
-fresh-box start = record { state = fresh-controller; «last_time» = Absent; start = start }
+fresh-box start = unticked (usual (delay-on-init start))
 
 -- A tick that every question lets pass: the controller's outputs and next state, and its time becomes the last accepted one.
 unfoldable pub accepted-tick : AirBox → Tick → AirBoxStep
 accepted-tick box k =
-    let step = controller-output (box .state) (k .t) (k .input) (delay-on-init (box .start)) in
+    let step = controller-output (box .state) (k .t) (k .input) (box .choices) in
     record {
-      state = record { state = step .state; «last_time» = At (k .t); start = box .start };
+      state = record { state = step .state; «last_time» = At (k .t); choices = box .choices };
       answer = Accepted (step .output);
     }
 
@@ -126,6 +135,26 @@ tick box k = decided (questions (box .«last_time») k) box k
 -- what the box gives for the tick: the ten outputs, or the number
 abbrev pub given-for : AirBox → Tick → ControllerOutput ⊎ ℕ
 given-for box k = outputs-or-number (tick box k .answer)
+
+-- ---- document 02, N13: building a box with design flows of its own
+
+-- the cooling maximum from 0.1 to 10.0, and the minimum from 0.0 to the cooling maximum
+abbrev pub design-flows-within : Choices → Bool
+design-flows-within choices =
+    within (choices .«design_cooling_maximum_flow») (decimal 1 10) (decimal 10 1)
+    && within (choices .«design_minimum_flow») zero (choices .«design_cooling_maximum_flow»)
+
+unfoldable pub build : Choices → Built
+build choices = if design-flows-within choices then Builts.Box (unticked choices) else Builts.Refused
+
+abbrev pub built-number : Built → ℕ
+built-number (Builts.Box box) = 0
+built-number Builts.Refused = 8
+
+-- What building gives in document 02's words: the box, or the number.
+abbrev pub box-or-number : Built → AirBox ⊎ ℕ
+box-or-number (Builts.Box box) = inl box
+box-or-number Builts.Refused = inr (built-number Builts.Refused)
 
 -- ---- document 01, 'Desk code', in the order of document 02, N7: the leak comes first
 

@@ -9,14 +9,14 @@ use lib.Ieee.{Float, binary64, fits, neg}
 use Rattle.f64_helpers.specs.F64.{_⊗_, _⊘_, _>ᶠ_, zero, if_then_else_}
 use Rattle.f64_helpers.specs.Helpers.{floor}
 use Rattle.f64_helpers.specs.Seconds.{IsTime, is-time}
+use Rattle.box_choices.specs.declared.Choices.{Choices}
 use Rattle.cdl_recurrences.specs.CdlRecurrences.{buildings-round-six, initial-sample-time}
 use Rattle.cdl_recurrences.specs.declared.OptionalTime.the-variants.{Absent}
 use Rattle.cooling_only_controller_conditioning.specs.Conditioning.{SAMPLE_PERIOD}
 use Rattle.cooling_only_controller.specs.declared.ControllerState.{ControllerState}
-use Rattle.air_box.specs.AirBox.{fresh-box, tick}
+use Rattle.air_box.specs.AirBox.{unticked, tick}
 use Rattle.air_box.specs.Demand1.{AllYes}
 use Rattle.air_box.specs.declared.Tick.{Tick}
-use Rattle.air_box.specs.declared.Start.{Start}
 use Rattle.air_box.specs.declared.AirBox.{AirBox}
 
 -- what the shorter way gives: the number as it came, and -0.0 for a zero of either sign
@@ -48,5 +48,5 @@ pub record NoDivision : Type 0 where
   -- of every accepted tick, whatever the box holds, that multiple is among the numbers of the shorter way
   pub accepted : (box : AirBox) (k : Tick) → AllYes (box .«last_time») k → T (is-time (multiple-before (k .t)))
   -- so all six grids of a box start, at its first accepted tick, at that multiple as it came
-  pub first-tick : (start : Start) (k : Tick) → AllYes Absent k
-      → GridsStartAt (as-it-came (multiple-before (k .t))) (tick (fresh-box start) k .state .state)
+  pub first-tick : (choices : Choices) (k : Tick) → AllYes Absent k
+      → GridsStartAt (as-it-came (multiple-before (k .t))) (tick (unticked choices) k .state .state)

@@ -1,6 +1,7 @@
-// The air box: the controller's state, the last accepted time and the start choice; the seven questions asked of a tick; the desk code.
+// The air box: the controller's state, the last accepted time and what was chosen when it was built; building; the seven questions asked of a tick; the desk code.
 ghost use mathlib.Core.Path.{_≡_};
 ghost use Rattle.air_box.specs.AirBox as AirBoxes;
+use box_choices::Choices;
 use cdl_recurrences::OptionalTime;
 use cooling_only_controller::ControllerInput;
 use cooling_only_controller::ControllerOutput;
@@ -13,7 +14,7 @@ pub struct Tick {
     pub input: ControllerInput,
 }
 
-// The start choice, named when a box is built. It never changes.
+// The start choice, named when a box is built.
 pub enum Start {
     Plain,
     Quiet,
@@ -22,7 +23,13 @@ pub enum Start {
 pub struct AirBox {
     pub state: ControllerState,
     pub last_time: OptionalTime,
-    pub start: Start,
+    pub choices: Choices,
+}
+
+// What building gives: the box, or a refusal where a design flow is out of its range.
+pub enum Built {
+    Box(AirBox),
+    Refused,
 }
 
 // Why a tick is refused: the question that got the first "no".
@@ -82,16 +89,35 @@ impl Start {
     }
 }
 
+impl Built {
+    // 0 for a box, and document 02's number of the refusal.
+    pub fn number(self) -> u8
+        ensures { λ r. ⌜ r ≡ AirBoxes.built-number self ⌝ }
+    {
+        match self {
+            Built::Box(_) => 0,
+            Built::Refused => 8,
+        }
+    }
+}
+
 impl AirBox {
-    // A box that has had no tick.
+    // A box that has had no tick, with the usual design flows.
     pub fn fresh(start: Start) -> AirBox
         ensures { λ r. ⌜ r ≡ AirBoxes.fresh-box start ⌝ }
     {
-        let state = ControllerState::fresh();
-        AirBox {
-            state,
-            last_time: OptionalTime::Absent,
-            start,
+        let quiet = start.delay_on_init();
+        unticked(Choices::usual(quiet))
+    }
+
+    // A box that has had no tick, with the design flows that are wanted. What it was built with stays.
+    pub fn build(choices: Choices) -> Built
+        ensures { λ r. ⌜ r ≡ AirBoxes.build choices ⌝ }
+    {
+        if design_flows_within(choices) {
+            Built::Box(unticked(choices))
+        } else {
+            Built::Refused
         }
     }
 
@@ -114,21 +140,39 @@ impl AirBox {
     fn accepted(self, tick: Tick) -> AirBoxStep
         ensures { λ r. ⌜ r ≡ AirBoxes.accepted-tick self tick ⌝ }
     {
-        let start = self.start;
-        let delay_on_init = start.delay_on_init();
+        let choices = self.choices;
         let input = tick.input;
-        let step = self.state.output(tick.t, input, delay_on_init);
+        let step = self.state.output(tick.t, input, choices);
         let state = step.state;
         let output = step.output;
         AirBoxStep {
             state: AirBox {
                 state,
                 last_time: OptionalTime::At(tick.t),
-                start,
+                choices,
             },
             answer: Answer::Accepted(output),
         }
     }
+}
+
+fn unticked(choices: Choices) -> AirBox
+    ensures { λ r. ⌜ r ≡ AirBoxes.unticked choices ⌝ }
+{
+    let state = ControllerState::fresh();
+    AirBox {
+        state,
+        last_time: OptionalTime::Absent,
+        choices,
+    }
+}
+
+// Whether a box of these design flows can be built: the cooling maximum from 0.1 to 10.0, and the minimum from 0.0 to that.
+pub fn design_flows_within(choices: Choices) -> bool
+    ensures { λ r. ⌜ r ≡ AirBoxes.design-flows-within choices ⌝ }
+{
+    let maximum = choices.design_cooling_maximum_flow;
+    within(maximum, 0.1, 10.0) & within(choices.design_minimum_flow, 0.0, maximum)
 }
 
 // The seven questions, in order: the first "no" is the reason.

@@ -1,11 +1,11 @@
 -- The stages of `Stages.antt`, one after the other, are the tick of the box. Assumes nothing.
 use mathlib.Core.Path.{_≡_, refl, sym}
-use mathlib.Core.Bool.{Bool, true, false, not}
+use mathlib.Core.Bool.{not}
 use Prim.Native.Nat.{ℕ, _<_}
 use native.Mathlib.Omega.{arith}
 use lib.Dec.{T, eqb, eqb→eq}
 use Rattle.cooling_only_controller.proofs.ByPieces.{controller-by-pieces}
-use Rattle.air_box.specs.AirBox.{tick, questions, decided, accepted-tick, refusal-number, delay-on-init}
+use Rattle.air_box.specs.AirBox.{tick, questions, decided, accepted-tick, refusal-number}
 use Rattle.cooling_only_controller.specs.declared.ControllerOutput.{ControllerOutput}
 use Rattle.air_box.specs.declared.Tick.{Tick}
 use Rattle.air_box.specs.declared.Answer.the-variants.{Accepted}
@@ -13,7 +13,7 @@ use Rattle.air_box.specs.declared.Verdict.{Verdict}
 use Rattle.air_box.specs.declared.Verdict.the-variants.{Accept, Refuse}
 use Rattle.air_box.specs.declared.Refusal.{Refusal}
 use Rattle.air_box.proofs.Demands.{above-zero}
-use Rattle.air_box_c.specs.Records.{open-time, open-controller, open-box, shut-box, start-of}
+use Rattle.air_box_c.specs.Records.{open-time, open-controller, open-box, shut-box}
 use Rattle.air_box_c.specs.Promises.{Ticked}
 use Rattle.air_box_c.specs.Stages.{verdict-number, questioned, suppression-tick, airflow-tick, requests-tick, alarms-tick, last-tick}
 use Rattle.air_box_c.specs.declared.records.AirBoxC.{AirBoxC}
@@ -50,17 +50,13 @@ stored c k = record {
   last = lasted c k .state;
 }
 
-quiet-back : (q : Bool) → delay-on-init (start-of q) ≡ q
-quiet-back true = refl
-quiet-back false = refl
-
 stored-is : (c : AirBoxC) (k : Tick) → stored c k ≡ shut-box (accepted-tick (open-box c) k .state)
 unfolding shut-box open-box accepted-tick
-stored-is c k = rw (quiet-back, sym (controller-by-pieces (open-controller c) (k .t) (k .input) (c .last .quiet)))
+stored-is c k = rw (sym (controller-by-pieces (open-controller c) (k .t) (k .input) (c .last .choices)))
 
 pub told-is : (c : AirBoxC) (k : Tick) → accepted-tick (open-box c) k .answer ≡ Accepted (lasted c k .output)
 unfolding open-box accepted-tick
-told-is c k = rw (quiet-back, sym (controller-by-pieces (open-controller c) (k .t) (k .input) (c .last .quiet)))
+told-is c k = rw (sym (controller-by-pieces (open-controller c) (k .t) (k .input) (c .last .choices)))
 
 -- the two outcomes, by the verdict v
 pub ticks : (c : AirBoxC) (k : Tick) (v : Verdict) → questions (open-time (c .last .time)) k ≡ v → tick (open-box c) k ≡ decided v (open-box c) k

@@ -1,5 +1,6 @@
 -- The record of a box stands for that box, stage by stage. Assumes nothing.
 use mathlib.Core.Path.{_≡_, refl}
+use Rattle.box_choices.specs.declared.Choices.{Choices}
 use Rattle.cdl_recurrences.specs.declared.OptionalTime.{OptionalTime}
 use Rattle.cdl_recurrences.specs.declared.OptionalTime.the-variants.{Absent, At}
 use Rattle.cooling_only_controller_timing.specs.declared.TrueDelayState.{TrueDelayState}
@@ -11,11 +12,9 @@ use Rattle.cooling_only_controller_airflow.specs.declared.DamperState.{DamperSt
 use Rattle.cooling_only_controller_airflow.specs.declared.SystemRequestsState.{SystemRequestsState}
 use Rattle.cooling_only_controller_airflow.specs.declared.AlarmsState.{AlarmsState}
 use Rattle.cooling_only_controller.specs.declared.ControllerState.{ControllerState}
-use Rattle.air_box.specs.AirBox.{delay-on-init}
-use Rattle.air_box.specs.declared.Start.{Start}
-use Rattle.air_box.specs.declared.Start.the-variants.{Plain, Quiet}
+use Rattle.air_box.specs.AirBox.{unticked}
 use Rattle.air_box_c.specs.declared.records.LastTickC.{LastTickC}
-use Rattle.air_box_c.specs.Records.{open-time, shut-time, open-true-delay, shut-true-delay, open-timer, shut-timer, open-time-suppression, shut-time-suppression, open-loop-pi, shut-loop-pi, open-control-loops, shut-control-loops, open-damper, shut-damper, open-system-requests, shut-system-requests, open-alarms, shut-alarms, open-controller, shut-state, start-of, open-box, shut-box}
+use Rattle.air_box_c.specs.Records.{open-time, shut-time, open-true-delay, shut-true-delay, open-timer, shut-timer, open-time-suppression, shut-time-suppression, open-loop-pi, shut-loop-pi, open-control-loops, shut-control-loops, open-damper, shut-damper, open-system-requests, shut-system-requests, open-alarms, shut-alarms, open-controller, shut-state, open-box, shut-box, fresh-record}
 use Rattle.air_box_c.specs.Promises.{OpenShut}
 
 open-shut-time : (s : OptionalTime) → open-time (shut-time s) ≡ s
@@ -58,10 +57,10 @@ open-shut-alarms s = simp open-shut-true-delay
 pub open-shut-controller : (s : ControllerState) (l : LastTickC) → open-controller (shut-state s l) ≡ s
 open-shut-controller s l = rw (open-shut-time-suppression, open-shut-control-loops, open-shut-damper, open-shut-system-requests, open-shut-alarms)
 
-start-back : (s : Start) → start-of (delay-on-init s) ≡ s
-start-back Plain = refl
-start-back Quiet = refl
-
 pub open-shut : OpenShut
 unfolding open-box shut-box
-open-shut s = rw (open-shut-controller, open-shut-time, start-back)
+open-shut s = rw (open-shut-controller, open-shut-time)
+
+pub fresh-opened : (choices : Choices) → open-box (fresh-record choices) ≡ unticked choices
+unfolding shut-box
+fresh-opened choices = open-shut (unticked choices)

@@ -1,28 +1,38 @@
--- What the C interface promises: `air_box_fresh` gives a box as `Fresh` has it, `air_box_tick` leaves its records as `Ticked` has them,
--- and `air_box_desk_code` gives the box's own `desk-code`.
+-- What the C interface promises: `air_box_fresh` gives a box as `Fresh` has it, `air_box_build` leaves its record as `BuiltAt` has it,
+-- `air_box_tick` leaves its records as `Ticked` has them, and `air_box_desk_code` gives the box's own `desk-code`.
 -- What `Ticked` says to a caller, number by number, stands in Demand1InC.antt.
 use Prim.Native.Nat.{ℕ}
 use mathlib.Core.Path.{_≡_}
-use mathlib.Core.Bool.{Bool}
+use Rattle.box_choices.specs.declared.Choices.{Choices}
 use Rattle.cooling_only_controller.specs.declared.ControllerOutput.{ControllerOutput}
-use Rattle.air_box.specs.AirBox.{tick, fresh-box, questions, accepted-tick, refusal-number}
+use Rattle.air_box.specs.AirBox.{unticked, build, built-number, tick, questions, accepted-tick, refusal-number}
 use Rattle.air_box.specs.declared.Tick.{Tick}
 use Rattle.air_box.specs.declared.AirBox.{AirBox}
+use Rattle.air_box.specs.declared.Built.the-variants.{Box}
 use Rattle.air_box.specs.declared.Answer.{Answer}
 use Rattle.air_box.specs.declared.Answer.the-variants.{Accepted, Refused}
 use Rattle.air_box.specs.declared.Verdict.{Verdict}
 use Rattle.air_box.specs.declared.Verdict.the-variants.{Accept, Refuse}
-use Rattle.air_box_c.specs.Records.{open-time, start-of, open-box, shut-box, fresh-record}
+use Rattle.air_box_c.specs.Records.{open-time, open-box, shut-box, fresh-record, built-record}
 use Rattle.air_box_c.specs.declared.records.AirBoxC.{AirBoxC}
 
 -- the record of a box stands for that box
 abbrev pub OpenShut : Type 0
 OpenShut = (s : AirBox) → open-box (shut-box s) ≡ s
 
--- the record r stands for a box that has had no tick; every field of it is settled
-pub record Fresh (quiet : Bool) (r : AirBoxC) : Type 0 where
-  pub box : open-box r ≡ fresh-box (start-of quiet)
-  pub every-field : r ≡ fresh-record quiet
+-- ---- building
+
+-- the record r stands for a box that has had no tick, with these choices; every field of it is settled
+pub record Fresh (choices : Choices) (r : AirBoxC) : Type 0 where
+  pub box : open-box r ≡ unticked choices
+  pub every-field : r ≡ fresh-record choices
+
+-- The number is that of what building gives. Where that is a box, the record `after` stands for it, every field settled;
+-- a refused building leaves the record as it was.
+pub record BuiltAt (before : AirBoxC) (choices : Choices) (after : AirBoxC) (number : ℕ) : Type 0 where
+  pub number-told : number ≡ built-number (build choices)
+  pub next-box : (box : AirBox) → build choices ≡ Box box → open-box after ≡ box
+  pub every-field : after ≡ built-record (build choices) before
 
 -- ---- a tick
 

@@ -1,7 +1,8 @@
 -- The records of the C interface: what state each stands for (`open`), and the record of a state (`shut`), from the time to the box.
 -- An absent time is the flag false; the number beside it then has no meaning, and `shut` writes 0 there.
-use mathlib.Core.Bool.{Bool, true, false}
+use mathlib.Core.Bool.{true, false}
 use Rattle.f64_helpers.specs.F64.{zero, if_then_else_}
+use Rattle.box_choices.specs.declared.Choices.{Choices}
 use Rattle.cdl_recurrences.specs.declared.OptionalTime.{OptionalTime}
 use Rattle.cdl_recurrences.specs.declared.OptionalTime.the-variants.{Absent, At}
 use Rattle.cooling_only_controller_timing.specs.declared.TrueDelayState.{TrueDelayState}
@@ -16,10 +17,10 @@ use Rattle.cooling_only_controller_airflow.specs.declared.SystemRequestsState.{
 use Rattle.cooling_only_controller_airflow.specs.declared.AlarmsState.{AlarmsState}
 use Rattle.cooling_only_controller.specs.declared.ControllerState.{ControllerState}
 use Rattle.cooling_only_controller.specs.Controller.{fresh-controller}
-use Rattle.air_box.specs.AirBox.{delay-on-init}
-use Rattle.air_box.specs.declared.Start.{Start}
-use Rattle.air_box.specs.declared.Start.the-variants.{Plain, Quiet}
+use Rattle.air_box.specs.AirBox.{build, built-number}
 use Rattle.air_box.specs.declared.AirBox.{AirBox}
+use Rattle.air_box.specs.declared.Built.{Built}
+use Rattle.air_box.specs.declared.Built.the-variants.{Box, Refused}
 use Rattle.air_box_c.specs.declared.records.OptionalTimeC.{OptionalTimeC}
 use Rattle.air_box_c.specs.declared.records.TrueDelayC.{TrueDelayC}
 use Rattle.air_box_c.specs.declared.records.TimerC.{TimerC}
@@ -32,6 +33,7 @@ use Rattle.air_box_c.specs.declared.records.AlarmsC.{AlarmsC}
 use Rattle.air_box_c.specs.declared.records.AirflowC.{AirflowC}
 use Rattle.air_box_c.specs.declared.records.LastTickC.{LastTickC}
 use Rattle.air_box_c.specs.declared.records.AirBoxC.{AirBoxC}
+use Rattle.air_box_c.specs.declared.records.BuiltC.{BuiltC}
 
 unfoldable pub open-time : OptionalTimeC → OptionalTime
 open-time c = if c .present then At (c .time) else Absent
@@ -240,12 +242,8 @@ shut-airflow loops setpoints zone-states damper = record {
 
 -- ---- the box
 
-abbrev pub start-of : Bool → Start
-start-of true = Quiet
-start-of false = Plain
-
 unfoldable pub open-box : AirBoxC → AirBox
-open-box c = record { state = open-controller c; «last_time» = open-time (c .last .time); start = start-of (c .last .quiet) }
+open-box c = record { state = open-controller c; «last_time» = open-time (c .last .time); choices = c .last .choices }
 
 -- the record of a state, with what stands beside it
 abbrev pub shut-state : ControllerState → LastTickC → AirBoxC
@@ -258,8 +256,17 @@ shut-state s last-part = record {
 }
 
 unfoldable pub shut-box : AirBox → AirBoxC
-shut-box box = shut-state (box .state) (record { time = shut-time (box .«last_time»); quiet = delay-on-init (box .start) })
+shut-box box = shut-state (box .state) (record { time = shut-time (box .«last_time»); choices = box .choices })
 
 -- the record of a box that has had no tick
-abbrev pub fresh-record : Bool → AirBoxC
-fresh-record quiet = shut-state fresh-controller (record { time = shut-time Absent; quiet = quiet })
+abbrev pub fresh-record : Choices → AirBoxC
+fresh-record choices = shut-state fresh-controller (record { time = shut-time Absent; choices = choices })
+
+-- what building leaves where the record c stood: that of the box, or c
+abbrev pub built-record : Built → AirBoxC → AirBoxC
+built-record (Box box) c = shut-box box
+built-record Refused c = c
+
+-- beside it the number
+abbrev pub build-over : AirBoxC → Choices → BuiltC
+build-over c choices = record { state = built-record (build choices) c; number = built-number (build choices) }

@@ -37,7 +37,7 @@ verdict-number (Refuse reason) = refusal-number reason
 
 -- the questions
 abbrev pub questioned : LastTickC → Tick → Questioned
-questioned c k = record { number = verdict-number (questions (open-time (c .time)) k); next = record { tick = k; quiet = c .quiet } }
+questioned c k = record { number = verdict-number (questions (open-time (c .time)) k); next = record { tick = k; choices = c .choices } }
 
 -- time suppression
 abbrev pub suppression-tick : TimeSuppressionC → TickStart → SuppressionTick
@@ -64,14 +64,14 @@ airflow-tick c suppression =
     let k = suppression .start .tick in
     let loops = open-control-loops (c .«control_loops») in
     let damper = open-damper (c .dampers) in
-    airflow-ticked suppression (airflow-steps (k .t) (k .input) loops (c .setpoints) (c .«zone_states») damper)
+    airflow-ticked suppression (airflow-steps (k .t) (k .input) (suppression .start .choices) loops (c .setpoints) (c .«zone_states») damper)
 
 -- the system requests
 abbrev pub requests-tick : SystemRequestsC → AfterDampers → RequestsTick
 requests-tick c airflow =
     let start = airflow .suppression .start in
     let wanted = request-input (start .tick .input) (airflow .suppression .«after_suppression») (airflow .loops) (airflow .damper) in
-    let step = system-requests (open-system-requests c) (start .tick .t) wanted (start .quiet) in
+    let step = system-requests (open-system-requests c) (start .tick .t) wanted (start .choices) in
     record { state = shut-system-requests (step .state); next = record { airflow = airflow; requests = step .output } }
 
 -- the alarms, and the ten outputs
@@ -79,10 +79,10 @@ abbrev pub alarms-tick : AlarmsC → AfterRequests → AlarmsTick
 alarms-tick c after =
     let airflow = after .airflow in
     let start = airflow .suppression .start in
-    let step = alarms (open-alarms c) (start .tick .t) (alarm-input (start .tick .input) (airflow .damper)) (start .quiet) in
+    let step = alarms (open-alarms c) (start .tick .t) (alarm-input (start .tick .input) (airflow .damper)) (start .choices) in
     let output = outputs (airflow .damper) (airflow .flows) (after .requests) (step .output) in
     record { state = shut-alarms (step .state); next = record { t = start .tick .t; output = output } }
 
 -- the time of an accepted tick, and its outputs
 abbrev pub last-tick : LastTickC → AfterAlarms → LastTick
-last-tick c done = record { state = record { time = record { present = true; time = done .t }; quiet = c .quiet }; output = done .output }
+last-tick c done = record { state = record { time = record { present = true; time = done .t }; choices = c .choices }; output = done .output }

@@ -1,5 +1,6 @@
 // The C interface: the exported functions. The box as a record of numbers and flags is in records.rt, the parts of a tick are in stages.rt.
 ghost use mathlib.Core.Path.{_≡_};
+ghost use Rattle.box_choices.specs.BoxChoices as BoxChoices;
 ghost use Rattle.air_box.specs.AirBox as AirBoxes;
 ghost use Rattle.air_box_c.specs.Promises as Promises;
 
@@ -7,35 +8,26 @@ pub mod records;
 mod stages;
 
 use air_box::Tick;
-use cdl_recurrences::OptionalTime;
+use box_choices::Choices;
 use cooling_only_controller::ControllerOutput;
-use cooling_only_controller::ControllerState;
 use records::AirBoxC;
-use records::AirflowC;
-use records::AlarmsC;
-use records::LastTickC;
-use records::OptionalTimeC;
-use records::SystemRequestsC;
-use records::TimeSuppressionC;
 
-// A box that has had no tick.
+// A box that has had no tick, with the usual design flows.
 #[no_mangle]
 pub extern "C" fn air_box_fresh(quiet: bool) -> AirBoxC
-    ensures { λ r. ⌜ Promises.Fresh quiet r ⌝ }
+    ensures { λ r. ⌜ Promises.Fresh (BoxChoices.usual quiet) r ⌝ }
 {
-    let s = ControllerState::fresh();
-    let time_suppression = TimeSuppressionC::shut(s.time_suppression);
-    let airflow = AirflowC::shut(s.control_loops, s.setpoints, s.zone_states, s.dampers);
-    let system_requests = SystemRequestsC::shut(s.system_requests);
-    let alarms = AlarmsC::shut(s.alarms);
-    let time = OptionalTimeC::shut(OptionalTime::Absent);
-    AirBoxC {
-        time_suppression,
-        airflow,
-        system_requests,
-        alarms,
-        last: LastTickC { time, quiet },
-    }
+    AirBoxC::fresh(Choices::usual(quiet))
+}
+
+// Puts a box that has had no tick, with these choices, in the place of the one at b: 0; or 8 where a design flow is out of its range, and the box at b is as it was.
+#[no_mangle]
+pub extern "C" fn air_box_build(b: &mut AirBoxC, choices: Choices) -> u8
+    ensures { λ r. ⌜ Promises.BuiltAt (now (b .entry)) choices (now (b .exit)) r ⌝ }
+{
+    let built = b.build(choices);
+    *b = built.state;
+    built.number
 }
 
 // One tick of the box at b: 0, the next box and its outputs; or the number of the refusal, with box and output as they were.

@@ -2,7 +2,9 @@
 // `open` gives the state that a record stands for, and `shut` the record of a state.
 ghost use mathlib.Core.Path.{_≡_};
 ghost use Rattle.air_box_c.specs.Records as Records;
+use box_choices::Choices;
 use cdl_recurrences::OptionalTime;
+use cooling_only_controller::ControllerState;
 use cooling_only_controller_airflow::AlarmsState;
 use cooling_only_controller_airflow::DamperState;
 use cooling_only_controller_airflow::SystemRequestsState;
@@ -477,11 +479,11 @@ impl AirflowC {
     }
 }
 
-// Beside the state: the time of the last accepted tick, and the start choice.
+// Beside the state: the time of the last accepted tick, and what was chosen when the box was built.
 #[repr(C)]
 pub struct LastTickC {
     pub time: OptionalTimeC,
-    pub quiet: bool,
+    pub choices: Choices,
 }
 
 // `AirBox`. The stages stand in the order in which a tick goes through them.
@@ -492,4 +494,46 @@ pub struct AirBoxC {
     pub system_requests: SystemRequestsC,
     pub alarms: AlarmsC,
     pub last: LastTickC,
+}
+
+// What building leaves in place of a record, and the number that it gives.
+pub struct BuiltC {
+    pub state: AirBoxC,
+    pub number: u8,
+}
+
+impl AirBoxC {
+    // The record of a box that has had no tick.
+    pub fn fresh(choices: Choices) -> AirBoxC
+        ensures { λ r. ⌜ r ≡ Records.fresh-record choices ⌝ }
+    {
+        let s = ControllerState::fresh();
+        let time_suppression = TimeSuppressionC::shut(s.time_suppression);
+        let airflow = AirflowC::shut(s.control_loops, s.setpoints, s.zone_states, s.dampers);
+        let system_requests = SystemRequestsC::shut(s.system_requests);
+        let alarms = AlarmsC::shut(s.alarms);
+        let time = OptionalTimeC::shut(OptionalTime::Absent);
+        AirBoxC {
+            time_suppression,
+            airflow,
+            system_requests,
+            alarms,
+            last: LastTickC { time, choices },
+        }
+    }
+
+    // Building in place of this record, which stays where it is refused.
+    pub fn build(self, choices: Choices) -> BuiltC
+        ensures { λ r. ⌜ r ≡ Records.build-over self choices ⌝ }
+    {
+        if air_box::design_flows_within(choices) {
+            let state = AirBoxC::fresh(choices);
+            BuiltC { state, number: 0 }
+        } else {
+            BuiltC {
+                state: self,
+                number: 8,
+            }
+        }
+    }
 }

@@ -10,6 +10,7 @@ use super::records::SystemRequestsC;
 use super::records::TimeSuppressionC;
 use air_box::Tick;
 use air_box::Verdict;
+use box_choices::Choices;
 use cooling_only_controller::AirflowSteps;
 use cooling_only_controller::ControllerOutput;
 use cooling_only_controller_airflow::DamperOutput;
@@ -23,10 +24,10 @@ pub struct Questioned {
     pub next: TickStart,
 }
 
-// What is handed on: the tick and the start choice, and then, at each stage, what it knows of those before it. Only the stages look inside.
+// What is handed on: the tick and the box's choices, and then, at each stage, what it knows of those before it. Only the stages look inside.
 pub struct TickStart {
     tick: Tick,
-    quiet: bool,
+    choices: Choices,
 }
 
 impl LastTickC {
@@ -36,12 +37,10 @@ impl LastTickC {
         let last_time = self.time.open();
         let verdict = air_box::questions(last_time, tick);
         let number = verdict_number(verdict);
+        let choices = self.choices;
         Questioned {
             number,
-            next: TickStart {
-                tick,
-                quiet: self.quiet,
-            },
+            next: TickStart { tick, choices },
         }
     }
 }
@@ -103,6 +102,7 @@ impl AirflowC {
         let start = suppression.start;
         let tick = start.tick;
         let input = tick.input;
+        let choices = start.choices;
         let control_loops = self.control_loops.open();
         let setpoints = self.setpoints;
         let zone_states = self.zone_states;
@@ -110,6 +110,7 @@ impl AirflowC {
         let steps = cooling_only_controller::airflow_steps(
             tick.t,
             input,
+            choices,
             control_loops,
             setpoints,
             zone_states,
@@ -160,6 +161,7 @@ impl SystemRequestsC {
         let start = suppression.start;
         let tick = start.tick;
         let input = tick.input;
+        let choices = start.choices;
         let loops = airflow.loops;
         let damper = airflow.damper;
         let s = self.open();
@@ -169,7 +171,7 @@ impl SystemRequestsC {
             loops,
             damper,
         );
-        let step = s.output(tick.t, request_input, start.quiet);
+        let step = s.output(tick.t, request_input, choices);
         let state = SystemRequestsC::shut(step.state);
         let requests = step.output;
         RequestsTick {
@@ -198,12 +200,13 @@ impl AlarmsC {
         let start = suppression.start;
         let tick = start.tick;
         let input = tick.input;
+        let choices = start.choices;
         let damper = airflow.damper;
         let flows = airflow.flows;
         let requests = after.requests;
         let s = self.open();
         let alarm_input = cooling_only_controller::alarm_input(input, damper);
-        let step = s.output(tick.t, alarm_input, start.quiet);
+        let step = s.output(tick.t, alarm_input, choices);
         let state = AlarmsC::shut(step.state);
         let alarms = step.output;
         let output = cooling_only_controller::outputs(damper, flows, requests, alarms);
@@ -224,13 +227,14 @@ impl LastTickC {
         ensures { λ r. ⌜ r ≡ Stages.last-tick self done ⌝ }
     {
         let output = done.output;
+        let choices = self.choices;
         LastTick {
             state: LastTickC {
                 time: OptionalTimeC {
                     present: true,
                     time: done.t,
                 },
-                quiet: self.quiet,
+                choices,
             },
             output,
         }

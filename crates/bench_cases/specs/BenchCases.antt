@@ -7,6 +7,7 @@ use mathlib.Core.Bool.{Bool, true, false}
 use lib.IntN.{ℤ, pos, negsuc}
 use lib.Ieee.{Float, neg}
 use Rattle.f64_helpers.specs.F64.{decimal, zero}
+use Rattle.box_choices.specs.BoxChoices.{usual}
 use Rattle.cdl_recurrences.specs.CdlRecurrences.{buildings-line}
 use Rattle.cdl_recurrences.specs.declared.OptionalTime.the-variants.{At}
 use Rattle.cooling_only_controller_timing.specs.Timing.{sampler-sample, fresh-sampler, fresh-unit-delay, fresh-true-delay}
@@ -72,7 +73,7 @@ flow-of flow =
 
 abbrev alarms-after : List Float → AlarmsState
 alarms-after [] = fresh-alarms
-alarms-after (flow ∷ older) = alarms (alarms-after older) zero (flow-of flow) false .state
+alarms-after (flow ∷ older) = alarms (alarms-after older) zero (flow-of flow) (usual false) .state
 
 abbrev high : List Float → Value
 high flows = flag (alarms-after flows .«flow_high»)
@@ -94,7 +95,7 @@ base-of index base =
     }
 
 abbrev overridden : ℤ → Value
-overridden index = of-base (λ base. damper fresh-damper zero (base-of index base) .output .«airflow_setpoint»)
+overridden index = of-base (λ base. damper fresh-damper zero (base-of index base) (usual false) .output .«airflow_setpoint»)
 
 -- ---- h: suppression since 0 with these captured, and whether the window has passed when so much time has elapsed
 abbrev suppressed : Float → Float → TimeSuppressionState
@@ -171,14 +172,14 @@ cases =
     ∷ (overridden (pos 0) is of-base (λ base. base))
     ∷ (overridden (pos 4) is of-base (λ base. base))
     -- f
-    ∷ (number (active-airflow (pos 1) (decimal 75 100) .«cooling_maximum») is number (decimal 15 10))
-    ∷ (number (active-airflow (pos 1) (decimal 75 100) .minimum) is number (decimal 75 100))
-    ∷ (number (active-airflow (pos 2) (decimal 75 100) .«cooling_maximum») is number (decimal 15 10))
-    ∷ (number (active-airflow (pos 2) (decimal 75 100) .minimum) is number zero)
-    ∷ (number (active-airflow (pos 3) (decimal 75 100) .«cooling_maximum») is number (decimal 15 10))
-    ∷ (number (active-airflow (pos 3) (decimal 75 100) .minimum) is number zero)
-    ∷ (number (active-airflow (pos 4) (decimal 75 100) .«cooling_maximum») is number zero)
-    ∷ (number (active-airflow (pos 4) (decimal 75 100) .minimum) is number zero)
+    ∷ (number (active-airflow (pos 1) (decimal 75 100) (usual false) .«cooling_maximum») is number (decimal 15 10))
+    ∷ (number (active-airflow (pos 1) (decimal 75 100) (usual false) .minimum) is number (decimal 75 100))
+    ∷ (number (active-airflow (pos 2) (decimal 75 100) (usual false) .«cooling_maximum») is number (decimal 15 10))
+    ∷ (number (active-airflow (pos 2) (decimal 75 100) (usual false) .minimum) is number zero)
+    ∷ (number (active-airflow (pos 3) (decimal 75 100) (usual false) .«cooling_maximum») is number (decimal 15 10))
+    ∷ (number (active-airflow (pos 3) (decimal 75 100) (usual false) .minimum) is number zero)
+    ∷ (number (active-airflow (pos 4) (decimal 75 100) (usual false) .«cooling_maximum») is number zero)
+    ∷ (number (active-airflow (pos 4) (decimal 75 100) (usual false) .minimum) is number zero)
     -- g
     ∷ (number (buildings-line zero (decimal 5 10) (decimal 1 1) (decimal 15 10) (decimal 25 100)) is number (decimal 75 100))
     ∷ (number (buildings-line zero (decimal 5 10) (decimal 1 1) (decimal 15 10) (neg (decimal 1 1))) is number (decimal 5 10))

@@ -7,6 +7,7 @@ use mathlib.Core.Bool.{Bool, true, false}
 use Prim.Native.Nat.{ℕ}
 use lib.Ieee.{Float, binary64, ofBits, eq}
 use Rattle.f64_helpers.specs.F64.{decimal, zero}
+use Rattle.box_choices.specs.BoxChoices.{usual}
 use Rattle.cdl_recurrences.specs.declared.OptionalTime.the-variants.{Absent}
 use Rattle.cooling_only_controller_timing.specs.Timing.{fresh-sampler, fresh-true-delay}
 use Rattle.cooling_only_controller_conditioning.specs.Conditioning.{control-loops, zone-states}
@@ -74,7 +75,7 @@ requests-at was x =
       «discharge_airflow» = zero;
       «damper_position» = x;
     } in
-    system-requests memories zero wanted false .state
+    system-requests memories zero wanted (usual false) .state
 
 -- a test, the bits of a number at which it says yes, and those of its neighbour, at which it says no
 pub record Edge : Type 0 where

@@ -2,8 +2,8 @@
 -- with its names.
 -- Each let but `active` holds a stage's step: its `.output` is the Rust's value of that name, its `.state` the stage afterwards.
 -- `active` holds the value itself: `active-airflow` keeps nothing.
-use mathlib.Core.Bool.{Bool}
 use lib.Ieee.{Float}
+use Rattle.box_choices.specs.declared.Choices.{Choices}
 use Rattle.cooling_only_controller_conditioning.specs.Conditioning.{time-suppression, fresh-time-suppression}
 use Rattle.cooling_only_controller_conditioning.specs.Conditioning.{control-loops, fresh-control-loops}
 use Rattle.cooling_only_controller_conditioning.specs.Conditioning.{setpoints, active-airflow, fresh-setpoints}
@@ -28,10 +28,10 @@ fresh-controller =
     }
 
 -- Rust `ControllerState::output`; G36.TerminalUnits.CoolingOnly.Controller
--- `delay-on-init` is that of eight true delays: the three of system requests, and all of alarms but the fan's arming. In the Rust it is false.
+-- `choices` goes to each stage that has a choice in it: the design flows, which are constants in the Rust, and the start, which is plain there.
 -- In `let setpoints = setpoints ..` and the like the name on the right is the stage, and the one on the left its step, as in the Rust.
-unfoldable pub controller-output : ControllerState → Float → ControllerInput → Bool → ControllerStep
-controller-output s t input delay-on-init =
+unfoldable pub controller-output : ControllerState → Float → ControllerInput → Choices → ControllerStep
+controller-output s t input choices =
     let after-suppression = time-suppression (s .«time_suppression») t (input .«cooling_setpoint») (input .«zone_temperature») in
     let loops = control-loops (s .«control_loops») t (input .«cooling_setpoint») (input .«zone_temperature») (input .«heating_setpoint») in
     let setpoints = setpoints (s .setpoints) record {
@@ -42,8 +42,8 @@ controller-output s t input delay-on-init =
       «co2_concentration» = input .«co2_concentration»;
       «zone_temperature» = input .«zone_temperature»;
       «discharge_air_temperature» = input .«discharge_air_temperature»;
-    } in
-    let active = active-airflow (input .«operating_mode») (setpoints .output .«occupied_minimum_flow») in
+    } choices in
+    let active = active-airflow (input .«operating_mode») (setpoints .output .«occupied_minimum_flow») choices in
     let zone-state = zone-states (s .«zone_states») (loops .output .heating) (loops .output .cooling) in
     let damper = damper (s .dampers) t record {
       «active_minimum_flow» = active .minimum;
@@ -56,7 +56,7 @@ controller-output s t input delay-on-init =
       «supply_fan_status» = input .«supply_fan_status»;
       «discharge_airflow» = input .«discharge_airflow»;
       «damper_override_index» = input .«damper_override_index»;
-    } in
+    } choices in
     let requests = system-requests (s .«system_requests») t record {
       «after_suppression» = after-suppression .output;
       «cooling_setpoint» = input .«cooling_setpoint»;
@@ -65,14 +65,14 @@ controller-output s t input delay-on-init =
       «airflow_setpoint» = damper .output .«airflow_setpoint»;
       «discharge_airflow» = input .«discharge_airflow»;
       «damper_position» = damper .output .«damper_command»;
-    } delay-on-init in
+    } choices in
     let alarms = alarms (s .alarms) t record {
       «discharge_airflow» = input .«discharge_airflow»;
       «active_airflow_setpoint» = damper .output .«airflow_setpoint»;
       «supply_fan_status» = input .«supply_fan_status»;
       «operation_mode» = input .«operating_mode»;
       «damper_position» = damper .output .«damper_command»;
-    } delay-on-init in
+    } choices in
     record {
       state = record {
         «time_suppression» = after-suppression .state;

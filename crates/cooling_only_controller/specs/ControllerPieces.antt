@@ -4,6 +4,7 @@
 use mathlib.Core.Bool.{Bool}
 use lib.IntN.{ℤ}
 use lib.Ieee.{Float}
+use Rattle.box_choices.specs.declared.Choices.{Choices}
 use Rattle.cooling_only_controller_conditioning.specs.Conditioning.{control-loops, setpoints, active-airflow, zone-states}
 use Rattle.cooling_only_controller_conditioning.specs.declared.TimeSuppressionStep.{TimeSuppressionStep}
 use Rattle.cooling_only_controller_conditioning.specs.declared.ControlLoopOutput.{ControlLoopOutput}
@@ -86,13 +87,13 @@ alarm-input input damper =
 -- ---- the stages together
 
 -- The stages from the control loops to the damper, on their parts of the state
-unfoldable pub airflow-steps : Float → ControllerInput → ControlLoopsState → SetpointsState → ZoneStatesState → DamperState → AirflowSteps
-airflow-steps t input control-loops-state setpoints-state zone-states-state dampers-state =
+unfoldable pub airflow-steps : Float → ControllerInput → Choices → ControlLoopsState → SetpointsState → ZoneStatesState → DamperState → AirflowSteps
+airflow-steps t input choices control-loops-state setpoints-state zone-states-state dampers-state =
     let loops = control-loops control-loops-state t (input .«cooling_setpoint») (input .«zone_temperature») (input .«heating_setpoint») in
-    let setpoints-step = setpoints setpoints-state (setpoint-input input) in
-    let active = active-airflow (input .«operating_mode») (setpoints-step .output .«occupied_minimum_flow») in
+    let setpoints-step = setpoints setpoints-state (setpoint-input input) choices in
+    let active = active-airflow (input .«operating_mode») (setpoints-step .output .«occupied_minimum_flow») choices in
     let zone-state = zone-states zone-states-state (loops .output .heating) (loops .output .cooling) in
-    let damper-step = damper dampers-state t (damper-input input (loops .output) active (zone-state .output)) in
+    let damper-step = damper dampers-state t (damper-input input (loops .output) active (zone-state .output)) choices in
     record { loops = loops; setpoints = setpoints-step; zone = zone-state; damper = damper-step }
 
 -- The ten outputs

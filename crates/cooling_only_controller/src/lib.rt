@@ -2,6 +2,7 @@
 ghost use mathlib.Core.Path.{_≡_};
 ghost use Rattle.cooling_only_controller.specs.Controller as Controller;
 ghost use Rattle.cooling_only_controller.specs.ControllerPieces as ControllerPieces;
+use box_choices::Choices;
 use cooling_only_controller_airflow::AlarmInput;
 use cooling_only_controller_airflow::AlarmOutput;
 use cooling_only_controller_airflow::AlarmsState;
@@ -104,9 +105,8 @@ impl ControllerState {
         }
     }
 
-    // `delay_on_init` is that of eight true delays: the three of system requests, and all of alarms but the fan's arming.
-    pub fn output(self, t: f64, input: ControllerInput, delay_on_init: bool) -> ControllerStep
-        ensures { λ r. ⌜ r ≡ Controller.controller-output self t input «delay_on_init» ⌝ }
+    pub fn output(self, t: f64, input: ControllerInput, choices: Choices) -> ControllerStep
+        ensures { λ r. ⌜ r ≡ Controller.controller-output self t input choices ⌝ }
     {
         let after_suppression = self.time_suppression
             .output(t, input.cooling_setpoint, input.zone_temperature);
@@ -114,13 +114,13 @@ impl ControllerState {
         let setpoints = self.setpoints;
         let zone = self.zone_states;
         let dampers = self.dampers;
-        let air = airflow_steps(t, input, loops, setpoints, zone, dampers);
+        let air = airflow_steps(t, input, choices, loops, setpoints, zone, dampers);
         let loop_output = air.loops.output;
         let flow = air.damper.output;
         let wanted = request_input(input, after_suppression.output, loop_output, flow);
-        let requests = self.system_requests.output(t, wanted, delay_on_init);
+        let requests = self.system_requests.output(t, wanted, choices);
         let alarms = self.alarms
-            .output(t, alarm_input(input, flow), delay_on_init);
+            .output(t, alarm_input(input, flow), choices);
         controller_step(after_suppression, air, requests, alarms)
     }
 }
@@ -129,12 +129,13 @@ impl ControllerState {
 pub fn airflow_steps(
     t: f64,
     input: ControllerInput,
+    choices: Choices,
     control_loops: ControlLoopsState,
     setpoints: SetpointsState,
     zone_states: ZoneStatesState,
     dampers: DamperState,
 ) -> AirflowSteps
-    ensures { λ r. ⌜ r ≡ ControllerPieces.airflow-steps t input «control_loops» setpoints «zone_states» dampers ⌝ }
+    ensures { λ r. ⌜ r ≡ ControllerPieces.airflow-steps t input choices «control_loops» setpoints «zone_states» dampers ⌝ }
 {
     let loops = control_loops.output(
         t,
@@ -143,14 +144,16 @@ pub fn airflow_steps(
         input.heating_setpoint,
     );
     let loop_output = loops.output;
-    let flows = setpoints.output(setpoint_input(input));
+    let flows = setpoints.output(setpoint_input(input), choices);
     let minimum = flows.output;
     let active = cooling_only_controller_conditioning::active_airflow(
         input.operating_mode,
         minimum.occupied_minimum_flow,
+        choices,
     );
     let zone = zone_states.output(loop_output.heating, loop_output.cooling);
-    let damper = dampers.output(t, damper_input(input, loop_output, active, zone.output));
+    let damper_input = damper_input(input, loop_output, active, zone.output);
+    let damper = dampers.output(t, damper_input, choices);
     AirflowSteps {
         loops,
         setpoints: flows,

@@ -8,6 +8,7 @@ use lib.Ieee.{Float}
 use Rattle.f64_helpers.specs.F64.{if_then_else_}
 use Rattle.f64_helpers.specs.Integers.{_==ᶻ_}
 use Rattle.f64_helpers.proofs.Tests.{and-false}
+use Rattle.box_choices.specs.declared.Choices.{Choices}
 use Rattle.cooling_only_controller_timing.specs.Timing.{true-delay}
 use Rattle.cooling_only_controller_timing.proofs.TrueDelayLaw.{false-gives-false}
 use Rattle.cooling_only_controller_airflow.specs.Airflow.{alarms}
@@ -25,12 +26,12 @@ two-three-or-none true b = inl refl
 two-three-or-none false true = inr (inl refl)
 two-three-or-none false false = inr (inr refl)
 
-module _ (s : AlarmsState) (t : Float) (input : AlarmInput) (delay-on-init : Bool) where
+module _ (s : AlarmsState) (t : Float) (input : AlarmInput) (choices : Choices) where
   abbrev next : AlarmsState
-  next = alarms s t input delay-on-init .state
+  next = alarms s t input choices .state
 
   abbrev given : AlarmOutput
-  given = alarms s t input delay-on-init .output
+  given = alarms s t input choices .output
 
   abbrev occupied : Bool
   occupied = input .«operation_mode» ==ᶻ 1

@@ -1,7 +1,7 @@
 -- How the pieces of AirflowPieces.antt stand to the stages of Airflow.antt. Assumes nothing.
 use mathlib.Core.Path.{_≡_, refl}
-use mathlib.Core.Bool.{Bool}
 use lib.Ieee.{Float}
+use Rattle.box_choices.specs.declared.Choices.{Choices}
 use Rattle.cooling_only_controller_airflow.specs.Airflow.{damper, system-requests, alarms}
 use Rattle.cooling_only_controller_airflow.specs.AirflowPieces.{
   airflow-override,
@@ -21,17 +21,17 @@ use Rattle.cooling_only_controller_airflow.specs.declared.AlarmInput.{Al
 use Rattle.cooling_only_controller_airflow.specs.declared.AlarmsState.{AlarmsState}
 
 -- the damper's airflow setpoint; `damper-override` has no more to it than the match that stands at the end of `damper`
-pub damper-by-pieces : (s : DamperState) (t : Float) (input : DamperInput)
-    → airflow-setpoint input (damper s t input .state .«supply_warm») ≡ damper s t input .output .«airflow_setpoint»
+pub damper-by-pieces : (s : DamperState) (t : Float) (input : DamperInput) (choices : Choices)
+    → airflow-setpoint input (damper s t input choices .state .«supply_warm») choices ≡ damper s t input choices .output .«airflow_setpoint»
 unfolding damper airflow-setpoint airflow-override
-damper-by-pieces s t input = refl
+damper-by-pieces s t input choices = refl
 
-pub system-requests-by-pieces : (s : SystemRequestsState) (t : Float) (input : SystemRequestInput) (delay-on-init : Bool)
-    → system-requests-step (temperature-request s t input delay-on-init) (pressure-request s t input delay-on-init)
-    ≡ system-requests s t input delay-on-init
-system-requests-by-pieces s t input delay-on-init = refl
+pub system-requests-by-pieces : (s : SystemRequestsState) (t : Float) (input : SystemRequestInput) (choices : Choices)
+    → system-requests-step (temperature-request s t input choices) (pressure-request s t input choices)
+    ≡ system-requests s t input choices
+system-requests-by-pieces s t input choices = refl
 
-pub alarms-by-pieces : (s : AlarmsState) (t : Float) (input : AlarmInput) (delay-on-init : Bool)
-    → alarms-step (low-airflow s t input delay-on-init) (sensor-leak s t input delay-on-init)
-    ≡ alarms s t input delay-on-init
-alarms-by-pieces s t input delay-on-init = refl
+pub alarms-by-pieces : (s : AlarmsState) (t : Float) (input : AlarmInput) (choices : Choices)
+    → alarms-step (low-airflow s t input choices) (sensor-leak s t input choices)
+    ≡ alarms s t input choices
+alarms-by-pieces s t input choices = refl

@@ -3,6 +3,7 @@
 -- A let holds the Rust's value of its name, with one exception: where the Rust calls a block that keeps a state (`true-delay`,
 -- `sampler-sample`), the let holds the block's step. Its `.output` is the Rust's value, its `.state` the block afterwards.
 -- Comparators (`hysteresis`, `greater-hysteretic`, `less-hysteretic`), `buildings-line` and `clamp` give the value itself.
+-- The Rust's constants DESIGN_MINIMUM_FLOW and DESIGN_COOLING_MAXIMUM_FLOW are fields of `choices` (document 02, N13).
 -- `delay-on-init` is false in the Rust. A quiet start runs eight true delays with true: the three of system requests, and all of alarms
 -- but the fan's arming, which starts alike in both (document 02, N4).
 use mathlib.Core.Bool.{Bool, false, not, _&&_}
@@ -10,6 +11,7 @@ use lib.IntN.{ℤ, pos}
 use lib.Ieee.{Float}
 use Rattle.f64_helpers.specs.F64.{_⊕_, _⊖_, _⊗_, _⊘_, decimal, zero, if_then_else_}
 use Rattle.f64_helpers.specs.Integers.{_==ᶻ_}
+use Rattle.box_choices.specs.declared.Choices.{Choices}
 use Rattle.cdl_recurrences.specs.CdlRecurrences.{buildings-line, clamp, greater-hysteretic, hysteresis, less-hysteretic}
 use Rattle.cdl_recurrences.specs.declared.OptionalTime.the-variants.{Absent, At}
 use Rattle.cooling_only_controller_timing.specs.Timing.{sampler-sample, true-delay, step-seconds, fresh-sampler, fresh-true-delay}
@@ -23,13 +25,7 @@ use Rattle.cooling_only_controller_airflow.specs.declared.AlarmInput.{Al
 use Rattle.cooling_only_controller_airflow.specs.declared.AlarmsState.{AlarmsState}
 use Rattle.cooling_only_controller_airflow.specs.declared.AlarmsStep.{AlarmsStep}
 
--- ---- the Rust's constants
-
-abbrev pub DESIGN_MINIMUM_FLOW : Float
-DESIGN_MINIMUM_FLOW = decimal 5 10
-
-abbrev pub DESIGN_COOLING_MAXIMUM_FLOW : Float
-DESIGN_COOLING_MAXIMUM_FLOW = decimal 15 10
+-- ---- the Rust's other constants
 
 abbrev pub TEMPERATURE_HYSTERESIS : Float
 TEMPERATURE_HYSTERESIS = decimal 25 100
@@ -49,8 +45,8 @@ abbrev pub fresh-damper : DamperState
 fresh-damper = record { «supply_warm» = false; integrator = zero; «previous_time» = Absent; «previous_fan» = false }
 
 -- Rust `DamperState::output`. The command has the integrator from before this tick, which a fan that comes on resets.
-unfoldable pub damper : DamperState → Float → DamperInput → DamperStep
-damper s t input =
+unfoldable pub damper : DamperState → Float → DamperInput → Choices → DamperStep
+damper s t input choices =
     let supply-warm = greater-hysteretic (input .«supply_air_temperature») (input .«zone_temperature»)
     TEMPERATURE_HYSTERESIS (s .«supply_warm») in
     let mapped = buildings-line zero (input .«active_minimum_flow») (decimal 1 1) (input .«active_cooling_maximum_flow»)
@@ -58,11 +54,11 @@ damper s t input =
     let active = if supply-warm then input .«active_minimum_flow» else mapped in
     let base = if input .«zone_state» ==ᶻ 3 then active else input .«active_minimum_flow» in
     let airflow-setpoint = if input .«airflow_override_index» ==ᶻ 1 then zero
-    else if input .«airflow_override_index» ==ᶻ 2 then DESIGN_COOLING_MAXIMUM_FLOW
-    else if input .«airflow_override_index» ==ᶻ 3 then DESIGN_MINIMUM_FLOW
+    else if input .«airflow_override_index» ==ᶻ 2 then choices .«design_cooling_maximum_flow»
+    else if input .«airflow_override_index» ==ᶻ 3 then choices .«design_minimum_flow»
     else base in
-    let normalized-setpoint = airflow-setpoint ⊘ DESIGN_COOLING_MAXIMUM_FLOW in
-    let normalized-measurement = input .«discharge_airflow» ⊘ DESIGN_COOLING_MAXIMUM_FLOW in
+    let normalized-setpoint = airflow-setpoint ⊘ choices .«design_cooling_maximum_flow» in
+    let normalized-measurement = input .«discharge_airflow» ⊘ choices .«design_cooling_maximum_flow» in
     let error = normalized-setpoint ⊖ normalized-measurement in
     let proportional = decimal 5 10 ⊗ error in
     let unlimited = proportional ⊕ s .integrator in
@@ -113,8 +109,9 @@ abbrev pub request-level : Bool → Bool → Bool → ℤ
 request-level three two one = if three then pos 3 else if two then pos 2 else if one then pos 1 else pos 0
 
 -- Rust `SystemRequestsState::output`
-unfoldable pub system-requests : SystemRequestsState → Float → SystemRequestInput → Bool → SystemRequestsStep
-system-requests s t input delay-on-init =
+unfoldable pub system-requests : SystemRequestsState → Float → SystemRequestInput → Choices → SystemRequestsStep
+system-requests s t input choices =
+    let delay-on-init = choices .quiet in
     let temperature-difference = input .«zone_temperature» ⊖ input .«cooling_setpoint» in
     let hot-three = hysteresis temperature-difference (decimal 275 100) (decimal 3 1) (s .«hot_three») in
     let hot-two = hysteresis temperature-difference (decimal 175 100) (decimal 2 1) (s .«hot_two») in
@@ -175,8 +172,9 @@ fresh-alarms =
     }
 
 -- Rust `AlarmsState::output`. Both low-flow memories are stored before the fan's arming enters.
-unfoldable pub alarms : AlarmsState → Float → AlarmInput → Bool → AlarmsStep
-alarms s t input delay-on-init =
+unfoldable pub alarms : AlarmsState → Float → AlarmInput → Choices → AlarmsStep
+alarms s t input choices =
+    let delay-on-init = choices .quiet in
     let occupied = input .«operation_mode» ==ᶻ 1 in
     let fan-armed = true-delay (s .«fan_armed») t (input .«supply_fan_status») (decimal 1800 1) false in
     let setpoint-nonzero = hysteresis (input .«active_airflow_setpoint») (decimal 5 1000) (decimal 1 100) (s .«setpoint_nonzero») in
@@ -190,7 +188,7 @@ alarms s t input delay-on-init =
     let level-two = low-half-held .output && setpoint-on .output && occupied in
     let level-three = low-seventy-held .output && setpoint-on .output && occupied in
     let low-airflow = if level-two then pos 2 else if level-three then pos 3 else pos 0 in
-    let flow-high = greater-hysteretic (input .«discharge_airflow») (decimal 1 10 ⊗ DESIGN_COOLING_MAXIMUM_FLOW)
+    let flow-high = greater-hysteretic (input .«discharge_airflow») (decimal 1 10 ⊗ choices .«design_cooling_maximum_flow»)
     FLOW_HYSTERESIS (s .«flow_high») in
     let sensor-held = true-delay (s .«sensor_delay») t (flow-high && not (input .«supply_fan_status»)) (decimal 600 1) delay-on-init in
     let airflow-sensor = if sensor-held .output && occupied then pos 3 else pos 0 in

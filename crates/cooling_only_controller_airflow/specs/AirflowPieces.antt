@@ -8,8 +8,8 @@ use lib.Ieee.{Float}
 use Rattle.f64_helpers.specs.F64.{_⊗_, decimal, zero, if_then_else_}
 use Rattle.f64_helpers.specs.Integers.{_==ᶻ_}
 use Rattle.cdl_recurrences.specs.CdlRecurrences.{buildings-line, greater-hysteretic}
-use Rattle.cooling_only_controller_airflow.specs.Airflow.{DESIGN_MINIMUM_FLOW, DESIGN_COOLING_MAXIMUM_FLOW, FLOW_HYSTERESIS}
-use Rattle.cooling_only_controller_airflow.specs.Airflow.{system-requests, alarms}
+use Rattle.box_choices.specs.declared.Choices.{Choices}
+use Rattle.cooling_only_controller_airflow.specs.Airflow.{FLOW_HYSTERESIS, system-requests, alarms}
 use Rattle.cooling_only_controller_airflow.specs.declared.DamperInput.{DamperInput}
 use Rattle.cooling_only_controller_airflow.specs.declared.SystemRequestInput.{SystemRequestInput}
 use Rattle.cooling_only_controller_airflow.specs.declared.SystemRequestsState.{SystemRequestsState}
@@ -25,11 +25,11 @@ use Rattle.cooling_only_controller_airflow.specs.declared.SensorLeakStep
 -- ---- pieces of `damper`
 
 -- The match on `airflow_override_index`
-unfoldable pub airflow-override : ℤ → Float → Float
-airflow-override index base =
+unfoldable pub airflow-override : ℤ → Float → Choices → Float
+airflow-override index base choices =
     if index ==ᶻ 1 then zero
-    else if index ==ᶻ 2 then DESIGN_COOLING_MAXIMUM_FLOW
-    else if index ==ᶻ 3 then DESIGN_MINIMUM_FLOW
+    else if index ==ᶻ 2 then choices .«design_cooling_maximum_flow»
+    else if index ==ᶻ 3 then choices .«design_minimum_flow»
     else base
 
 -- The match on `damper_override_index`
@@ -40,20 +40,20 @@ damper-override index pid-output =
     else pid-output
 
 -- The damper's airflow setpoint, by whether the supply is warm
-unfoldable pub airflow-setpoint : DamperInput → Bool → Float
-airflow-setpoint input supply-warm =
+unfoldable pub airflow-setpoint : DamperInput → Bool → Choices → Float
+airflow-setpoint input supply-warm choices =
     let mapped = buildings-line zero (input .«active_minimum_flow») (decimal 1 1) (input .«active_cooling_maximum_flow»)
     (input .«cooling_loop») in
     let active = if supply-warm then input .«active_minimum_flow» else mapped in
     let base = if input .«zone_state» ==ᶻ 3 then active else input .«active_minimum_flow» in
-    airflow-override (input .«airflow_override_index») base
+    airflow-override (input .«airflow_override_index») base choices
 
 -- ---- pieces of `system-requests`
 
 -- What `system-requests` says of the temperature request: its memories afterwards and its level
-abbrev pub temperature-request : SystemRequestsState → Float → SystemRequestInput → Bool → TemperatureRequestStep
-temperature-request s t input delay-on-init =
-    let whole = system-requests s t input delay-on-init in
+abbrev pub temperature-request : SystemRequestsState → Float → SystemRequestInput → Choices → TemperatureRequestStep
+temperature-request s t input choices =
+    let whole = system-requests s t input choices in
     record {
       «hot_three» = whole .state .«hot_three»;
       «hot_two» = whole .state .«hot_two»;
@@ -69,9 +69,9 @@ abbrev pub starved : Float → Float → Float → Bool → Bool
 starved share setpoint discharge previous = greater-hysteretic (share ⊗ setpoint) discharge FLOW_HYSTERESIS previous
 
 -- What `system-requests` says of the pressure request: its memories afterwards and its level
-abbrev pub pressure-request : SystemRequestsState → Float → SystemRequestInput → Bool → PressureRequestStep
-pressure-request s t input delay-on-init =
-    let whole = system-requests s t input delay-on-init in
+abbrev pub pressure-request : SystemRequestsState → Float → SystemRequestInput → Choices → PressureRequestStep
+pressure-request s t input choices =
+    let whole = system-requests s t input choices in
     record {
       «setpoint_sampler» = whole .state .«setpoint_sampler»;
       «discharge_sampler» = whole .state .«discharge_sampler»;
@@ -122,9 +122,9 @@ abbrev pub alarm-level : Bool → ℤ → ℤ
 alarm-level on level = if on then level else pos 0
 
 -- What `alarms` says of the low airflow alarm: its memories afterwards and its level
-abbrev pub low-airflow : AlarmsState → Float → AlarmInput → Bool → LowAirflowStep
-low-airflow s t input delay-on-init =
-    let whole = alarms s t input delay-on-init in
+abbrev pub low-airflow : AlarmsState → Float → AlarmInput → Choices → LowAirflowStep
+low-airflow s t input choices =
+    let whole = alarms s t input choices in
     record {
       «fan_armed» = whole .state .«fan_armed»;
       «setpoint_nonzero» = whole .state .«setpoint_nonzero»;
@@ -137,9 +137,9 @@ low-airflow s t input delay-on-init =
     }
 
 -- What `alarms` says of the airflow sensor alarm and the leaking damper alarm: their memories afterwards and their levels
-abbrev pub sensor-leak : AlarmsState → Float → AlarmInput → Bool → SensorLeakStep
-sensor-leak s t input delay-on-init =
-    let whole = alarms s t input delay-on-init in
+abbrev pub sensor-leak : AlarmsState → Float → AlarmInput → Choices → SensorLeakStep
+sensor-leak s t input choices =
+    let whole = alarms s t input choices in
     record {
       «flow_high» = whole .state .«flow_high»;
       «sensor_delay» = whole .state .«sensor_delay»;

@@ -2,16 +2,13 @@
 ghost use mathlib.Core.Path.{_≡_};
 ghost use Rattle.cooling_only_controller_airflow.specs.Airflow as Airflow;
 ghost use Rattle.cooling_only_controller_airflow.specs.AirflowPieces as AirflowPieces;
+use box_choices::Choices;
 use cdl_recurrences::OptionalTime;
 use cdl_recurrences::greater_hysteretic;
 use cdl_recurrences::hysteresis;
 use cdl_recurrences::less_hysteretic;
 use cooling_only_controller_timing::SamplerState;
 use cooling_only_controller_timing::TrueDelayState;
-
-const DESIGN_MINIMUM_FLOW: f64 = 0.5;
-
-const DESIGN_COOLING_MAXIMUM_FLOW: f64 = 1.5;
 
 const TEMPERATURE_HYSTERESIS: f64 = 0.25;
 
@@ -64,8 +61,8 @@ impl DamperState {
     }
 
     // The PI's output is formed with the old integrator, which a starting fan resets.
-    pub fn output(self, t: f64, input: DamperInput) -> DamperStep
-        ensures { λ r. ⌜ r ≡ Airflow.damper self t input ⌝ }
+    pub fn output(self, t: f64, input: DamperInput, choices: Choices) -> DamperStep
+        ensures { λ r. ⌜ r ≡ Airflow.damper self t input choices ⌝ }
     {
         let supply_warm = greater_hysteretic(
             input.supply_air_temperature,
@@ -73,9 +70,10 @@ impl DamperState {
             TEMPERATURE_HYSTERESIS,
             self.supply_warm,
         ).output;
-        let airflow_setpoint = airflow_setpoint(input, supply_warm);
-        let normalized_setpoint = airflow_setpoint / DESIGN_COOLING_MAXIMUM_FLOW;
-        let normalized_measurement = input.discharge_airflow / DESIGN_COOLING_MAXIMUM_FLOW;
+        let airflow_setpoint = airflow_setpoint(input, supply_warm, choices);
+        let maximum = choices.design_cooling_maximum_flow;
+        let normalized_setpoint = airflow_setpoint / maximum;
+        let normalized_measurement = input.discharge_airflow / maximum;
         let error = normalized_setpoint - normalized_measurement;
         let proportional = 0.5 * error;
         let unlimited = proportional + self.integrator;
@@ -105,8 +103,8 @@ impl DamperState {
 }
 
 // The setpoint that the cooling loop asks for in the cooling state with cool supply air, else the minimum; an override comes first.
-fn airflow_setpoint(input: DamperInput, supply_warm: bool) -> f64
-    ensures { λ r. ⌜ r ≡ AirflowPieces.airflow-setpoint input «supply_warm» ⌝ }
+fn airflow_setpoint(input: DamperInput, supply_warm: bool, choices: Choices) -> f64
+    ensures { λ r. ⌜ r ≡ AirflowPieces.airflow-setpoint input «supply_warm» choices ⌝ }
 {
     let mapped = cdl_recurrences::buildings_line(
         0.0,
@@ -117,19 +115,19 @@ fn airflow_setpoint(input: DamperInput, supply_warm: bool) -> f64
     );
     let active = f64_helpers::choose(supply_warm, input.active_minimum_flow, mapped);
     let base = f64_helpers::choose(input.zone_state == 3, active, input.active_minimum_flow);
-    airflow_override(input.airflow_override_index, base)
+    airflow_override(input.airflow_override_index, base, choices)
 }
 
 // Override 1 closes, 2 and 3 ask for the design maximum and minimum; any other index leaves the base.
-fn airflow_override(index: i64, base: f64) -> f64
-    ensures { λ r. ⌜ r ≡ AirflowPieces.airflow-override index base ⌝ }
+fn airflow_override(index: i64, base: f64, choices: Choices) -> f64
+    ensures { λ r. ⌜ r ≡ AirflowPieces.airflow-override index base choices ⌝ }
 {
     if index == 1 {
         0.0
     } else if index == 2 {
-        DESIGN_COOLING_MAXIMUM_FLOW
+        choices.design_cooling_maximum_flow
     } else if index == 3 {
-        DESIGN_MINIMUM_FLOW
+        choices.design_minimum_flow
     } else {
         base
     }
@@ -237,12 +235,12 @@ impl SystemRequestsState {
         self,
         t: f64,
         input: SystemRequestInput,
-        delay_on_init: bool,
+        choices: Choices,
     ) -> SystemRequestsStep
-        ensures { λ r. ⌜ r ≡ Airflow.system-requests self t input «delay_on_init» ⌝ }
+        ensures { λ r. ⌜ r ≡ Airflow.system-requests self t input choices ⌝ }
     {
-        let temperature = self.temperature_request(t, input, delay_on_init);
-        let pressure = self.pressure_request(t, input, delay_on_init);
+        let temperature = self.temperature_request(t, input, choices);
+        let pressure = self.pressure_request(t, input, choices);
         system_requests_step(temperature, pressure)
     }
 
@@ -250,16 +248,16 @@ impl SystemRequestsState {
         self,
         t: f64,
         input: SystemRequestInput,
-        delay_on_init: bool,
+        choices: Choices,
     ) -> TemperatureRequestStep
-        ensures { λ r. ⌜ r ≡ AirflowPieces.temperature-request self t input «delay_on_init» ⌝ }
+        ensures { λ r. ⌜ r ≡ AirflowPieces.temperature-request self t input choices ⌝ }
     {
         let temperature_difference = input.zone_temperature - input.cooling_setpoint;
         let hot_three = hysteresis(temperature_difference, 2.75, 3.0, self.hot_three).output;
         let hot_two = hysteresis(temperature_difference, 1.75, 2.0, self.hot_two).output;
         let hot_three_held = self.hot_three_delay
-            .output(t, hot_three, 120.0, delay_on_init);
-        let hot_two_held = self.hot_two_delay.output(t, hot_two, 120.0, delay_on_init);
+            .output(t, hot_three, 120.0, choices.quiet);
+        let hot_two_held = self.hot_two_delay.output(t, hot_two, 120.0, choices.quiet);
         let sampled_cooling = self.cooling_sampler
             .sample(t, input.cooling_loop, SAMPLE_PERIOD);
         let cooling_high = hysteresis(sampled_cooling.output, 0.94, 0.95, self.cooling_high).output;
@@ -287,9 +285,9 @@ impl SystemRequestsState {
         self,
         t: f64,
         input: SystemRequestInput,
-        delay_on_init: bool,
+        choices: Choices,
     ) -> PressureRequestStep
-        ensures { λ r. ⌜ r ≡ AirflowPieces.pressure-request self t input «delay_on_init» ⌝ }
+        ensures { λ r. ⌜ r ≡ AirflowPieces.pressure-request self t input choices ⌝ }
     {
         let sampled_setpoint = self.setpoint_sampler
             .sample(t, input.airflow_setpoint, SAMPLE_PERIOD);
@@ -300,7 +298,7 @@ impl SystemRequestsState {
         let setpoint_on = hysteresis(sampled_setpoint.output, 0.005, 0.01, self.setpoint_on).output;
         let damper_high = hysteresis(sampled_damper.output, 0.94, 0.95, self.damper_high).output;
         let damper_held = self.damper_delay
-            .output(t, damper_high, 60.0, delay_on_init);
+            .output(t, damper_high, 60.0, choices.quiet);
         let starved_half = starved(
             0.5,
             sampled_setpoint.output,
@@ -467,17 +465,17 @@ impl AlarmsState {
         }
     }
 
-    pub fn output(self, t: f64, input: AlarmInput, delay_on_init: bool) -> AlarmsStep
-        ensures { λ r. ⌜ r ≡ Airflow.alarms self t input «delay_on_init» ⌝ }
+    pub fn output(self, t: f64, input: AlarmInput, choices: Choices) -> AlarmsStep
+        ensures { λ r. ⌜ r ≡ Airflow.alarms self t input choices ⌝ }
     {
-        let low = self.low_airflow(t, input, delay_on_init);
-        let sensor_leak = self.sensor_leak(t, input, delay_on_init);
+        let low = self.low_airflow(t, input, choices);
+        let sensor_leak = self.sensor_leak(t, input, choices);
         alarms_step(low, sensor_leak)
     }
 
     // Both low-flow memories move on every tick, whether the fan is armed or not.
-    fn low_airflow(self, t: f64, input: AlarmInput, delay_on_init: bool) -> LowAirflowStep
-        ensures { λ r. ⌜ r ≡ AirflowPieces.low-airflow self t input «delay_on_init» ⌝ }
+    fn low_airflow(self, t: f64, input: AlarmInput, choices: Choices) -> LowAirflowStep
+        ensures { λ r. ⌜ r ≡ AirflowPieces.low-airflow self t input choices ⌝ }
     {
         let flow = input.discharge_airflow;
         let setpoint = input.active_airflow_setpoint;
@@ -486,15 +484,15 @@ impl AlarmsState {
             .output(t, input.supply_fan_status, 1800.0, false);
         let setpoint_nonzero = hysteresis(setpoint, 0.005, 0.01, self.setpoint_nonzero).output;
         let setpoint_on = self.setpoint_on
-            .output(t, setpoint_nonzero, 300.0, delay_on_init);
+            .output(t, setpoint_nonzero, 300.0, choices.quiet);
         let low_half = less_hysteretic(flow, 0.5 * setpoint, FLOW_HYSTERESIS, self.low_half).output;
         let low_seventy = starved(0.7, setpoint, flow, self.low_seventy);
         let half_low = low_half & fan_armed.output;
         let low_half_held = self.low_half_delay
-            .output(t, half_low, 300.0, delay_on_init);
+            .output(t, half_low, 300.0, choices.quiet);
         let seventy_low = low_seventy & fan_armed.output;
         let low_seventy_held = self.low_seventy_delay
-            .output(t, seventy_low, 300.0, delay_on_init);
+            .output(t, seventy_low, 300.0, choices.quiet);
         let low_airflow = low_airflow_level(
             low_half_held.output,
             low_seventy_held.output,
@@ -517,12 +515,12 @@ impl AlarmsState {
         }
     }
 
-    fn sensor_leak(self, t: f64, input: AlarmInput, delay_on_init: bool) -> SensorLeakStep
-        ensures { λ r. ⌜ r ≡ AirflowPieces.sensor-leak self t input «delay_on_init» ⌝ }
+    fn sensor_leak(self, t: f64, input: AlarmInput, choices: Choices) -> SensorLeakStep
+        ensures { λ r. ⌜ r ≡ AirflowPieces.sensor-leak self t input choices ⌝ }
     {
         let occupied = input.operation_mode == 1;
         let fan = input.supply_fan_status;
-        let limit = 0.1 * DESIGN_COOLING_MAXIMUM_FLOW;
+        let limit = 0.1 * choices.design_cooling_maximum_flow;
         let flow_high = greater_hysteretic(
             input.discharge_airflow,
             limit,
@@ -530,7 +528,7 @@ impl AlarmsState {
             self.flow_high,
         ).output;
         let sensor_held = self.sensor_delay
-            .output(t, flow_high & !fan, 600.0, delay_on_init);
+            .output(t, flow_high & !fan, 600.0, choices.quiet);
         let airflow_sensor = alarm_level(sensor_held.output & occupied, 3);
         let damper_closed = less_hysteretic(
             input.damper_position,
@@ -539,7 +537,7 @@ impl AlarmsState {
             self.damper_closed,
         ).output;
         let leaking = fan & damper_closed & flow_high;
-        let leak_held = self.leak_delay.output(t, leaking, 600.0, delay_on_init);
+        let leak_held = self.leak_delay.output(t, leaking, 600.0, choices.quiet);
         let leaking_damper = alarm_level(leak_held.output, 4);
         let sensor_delay = sensor_held.state;
         let leak_delay = leak_held.state;

@@ -4,6 +4,7 @@
 -- `unit-delay-sample`, `true-delay`, `timer-elapsed`, `latch`, `loop-pi`), the let holds the block's step. Its `.output` is the Rust's
 -- value, its `.state` the block afterwards.
 -- Comparators (`hysteresis`, `greater-hysteretic`, `less-hysteretic`), `buildings-line` and `clamp` give the value itself.
+-- The Rust's constants DESIGN_MINIMUM_FLOW and DESIGN_COOLING_MAXIMUM_FLOW are fields of `choices` (document 02, N13).
 use mathlib.Core.Bool.{Bool, true, false, not, _&&_, _||_}
 use lib.IntN.{ℤ, pos}
 use lib.Signed.{leZ}
@@ -11,6 +12,7 @@ use lib.Ieee.{Float, neg}
 use Rattle.f64_helpers.specs.F64.{_⊕_, _⊖_, _⊗_, _⊘_, _>ᶠ_, decimal, zero, if_then_else_}
 use Rattle.f64_helpers.specs.Helpers.{abs, min}
 use Rattle.f64_helpers.specs.Integers.{_==ᶻ_}
+use Rattle.box_choices.specs.declared.Choices.{Choices}
 use Rattle.cdl_recurrences.specs.CdlRecurrences.{buildings-line, clamp, greater-hysteretic, hysteresis, less-hysteretic}
 use Rattle.cdl_recurrences.specs.declared.OptionalTime.the-variants.{Absent, At}
 use Rattle.cooling_only_controller_timing.specs.Timing.{sampler-sample, unit-delay-sample, true-delay, timer-elapsed, step-seconds}
@@ -30,7 +32,7 @@ use Rattle.cooling_only_controller_conditioning.specs.declared.ActiveAir
 use Rattle.cooling_only_controller_conditioning.specs.declared.ZoneStatesState.{ZoneStatesState}
 use Rattle.cooling_only_controller_conditioning.specs.declared.ZoneStatesStep.{ZoneStatesStep}
 
--- ---- the Rust's constants
+-- ---- the Rust's other constants
 
 abbrev pub SAMPLE_PERIOD : Float
 SAMPLE_PERIOD = decimal 120 1
@@ -55,12 +57,6 @@ CONTROL_INTEGRAL_TIME = decimal 900 1
 
 abbrev pub ANTI_WINDUP_NI : Float
 ANTI_WINDUP_NI = decimal 9 10
-
-abbrev pub DESIGN_MINIMUM_FLOW : Float
-DESIGN_MINIMUM_FLOW = decimal 5 10
-
-abbrev pub DESIGN_COOLING_MAXIMUM_FLOW : Float
-DESIGN_COOLING_MAXIMUM_FLOW = decimal 15 10
 
 abbrev pub AREA_BREATHING_FLOW : Float
 AREA_BREATHING_FLOW = decimal 6 1000
@@ -204,8 +200,8 @@ abbrev pub fresh-setpoints : SetpointsState
 fresh-setpoints = record { «cooling_supply» = false }
 
 -- Rust `SetpointsState::output`
-unfoldable pub setpoints : SetpointsState → SetpointInput → SetpointsStep
-setpoints s input =
+unfoldable pub setpoints : SetpointsState → SetpointInput → Choices → SetpointsStep
+setpoints s input choices =
     let cooling-supply = greater-hysteretic (input .«zone_temperature») (input .«discharge_air_temperature»)
     TEMPERATURE_HYSTERESIS (s .«cooling_supply») in
     let occupied-mode = input .«operating_mode» ==ᶻ 1 in
@@ -213,7 +209,8 @@ setpoints s input =
     let co2-loop = buildings-line (input .«co2_setpoint» ⊖ decimal 200 1) zero (input .«co2_setpoint») (decimal 1 1)
     (input .«co2_concentration») in
     let corrected-co2 = if occupied-mode then co2-loop else zero in
-    let occupied-minimum = buildings-line zero DESIGN_MINIMUM_FLOW (decimal 1 1) DESIGN_COOLING_MAXIMUM_FLOW corrected-co2 in
+    let occupied-minimum = buildings-line zero (choices .«design_minimum_flow») (decimal 1 1) (choices .«design_cooling_maximum_flow»)
+    corrected-co2 in
     let population = buildings-line zero zero (decimal 1 1) POPULATION_BREATHING_FLOW corrected-co2 in
     let not-occupied = not (input .«occupancy_status») in
     let population = if not-occupied then zero else population in
@@ -235,10 +232,11 @@ setpoints s input =
 
 -- ---- Rust `active_airflow`; G36.TerminalUnits.CoolingOnly.Subsequences.ActiveAirFlow
 
-unfoldable pub active-airflow : ℤ → Float → ActiveAirflowOutput
-active-airflow operating-mode occupied-minimum =
+unfoldable pub active-airflow : ℤ → Float → Choices → ActiveAirflowOutput
+active-airflow operating-mode occupied-minimum choices =
     record {
-      «cooling_maximum» = if leZ (pos 1) operating-mode && leZ operating-mode (pos 3) then DESIGN_COOLING_MAXIMUM_FLOW else zero;
+      «cooling_maximum» =
+          if leZ (pos 1) operating-mode && leZ operating-mode (pos 3) then choices .«design_cooling_maximum_flow» else zero;
       minimum = if operating-mode ==ᶻ 1 then occupied-minimum else zero;
     }
 

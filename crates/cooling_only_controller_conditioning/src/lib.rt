@@ -4,6 +4,7 @@ ghost use Rattle.f64_helpers.specs.F64.{decimal, zero};
 ghost use Rattle.cdl_recurrences.specs.CdlRecurrences.{buildings-line};
 ghost use Rattle.cooling_only_controller_conditioning.specs.Conditioning as Conditioning;
 ghost use Rattle.cooling_only_controller_conditioning.specs.ConditioningPieces as ConditioningPieces;
+use box_choices::Choices;
 use cdl_recurrences::OptionalTime;
 use cdl_recurrences::buildings_line;
 use cdl_recurrences::greater_hysteretic;
@@ -31,10 +32,6 @@ const CONTROL_GAIN: f64 = 0.1;
 const CONTROL_INTEGRAL_TIME: f64 = 900.0;
 
 const ANTI_WINDUP_NI: f64 = 0.9;
-
-const DESIGN_MINIMUM_FLOW: f64 = 0.5;
-
-const DESIGN_COOLING_MAXIMUM_FLOW: f64 = 1.5;
 
 const AREA_BREATHING_FLOW: f64 = 0.006;
 
@@ -469,8 +466,8 @@ impl SetpointsState {
         }
     }
 
-    pub fn output(self, input: SetpointInput) -> SetpointsStep
-        ensures { λ r. ⌜ r ≡ Conditioning.setpoints self input ⌝ }
+    pub fn output(self, input: SetpointInput, choices: Choices) -> SetpointsStep
+        ensures { λ r. ⌜ r ≡ Conditioning.setpoints self input choices ⌝ }
     {
         let cooling_supply = greater_hysteretic(
             input.zone_temperature,
@@ -484,8 +481,8 @@ impl SetpointsState {
         let co2_loop = buildings_line(co2 - 200.0, 0.0, co2, 1.0, input.co2_concentration);
         let corrected_co2 = choose(occupied_mode, co2_loop, 0.0);
         let occupied_minimum = unit_line(
-            DESIGN_MINIMUM_FLOW,
-            DESIGN_COOLING_MAXIMUM_FLOW,
+            choices.design_minimum_flow,
+            choices.design_cooling_maximum_flow,
             corrected_co2,
         );
         let population = unit_line(0.0, POPULATION_BREATHING_FLOW, corrected_co2);
@@ -533,11 +530,15 @@ pub struct ActiveAirflowOutput {
 }
 
 // The flow limits of the operating mode: 1 occupied, 2 and 3 cooldown and setup.
-pub fn active_airflow(operating_mode: i64, occupied_minimum: f64) -> ActiveAirflowOutput
-    ensures { λ r. ⌜ r ≡ Conditioning.active-airflow «operating_mode» «occupied_minimum» ⌝ }
+pub fn active_airflow(
+    operating_mode: i64,
+    occupied_minimum: f64,
+    choices: Choices,
+) -> ActiveAirflowOutput
+    ensures { λ r. ⌜ r ≡ Conditioning.active-airflow «operating_mode» «occupied_minimum» choices ⌝ }
 {
     let conditioned = (operating_mode >= 1) & (operating_mode <= 3);
-    let cooling_maximum = choose(conditioned, DESIGN_COOLING_MAXIMUM_FLOW, 0.0);
+    let cooling_maximum = choose(conditioned, choices.design_cooling_maximum_flow, 0.0);
     let minimum = choose(operating_mode == 1, occupied_minimum, 0.0);
     ActiveAirflowOutput {
         cooling_maximum,

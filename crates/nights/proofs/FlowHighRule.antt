@@ -4,9 +4,12 @@ use mathlib.Core.Logic.{_↔_, inl, inr}
 use mathlib.Core.List.{List, [], _∷_, _++_, append-assoc, append-nil}
 use mathlib.Core.Bool.{Bool}
 use lib.Dec.{T}
-use lib.Ieee.{Float, round, mul, sub, le}
+use lib.Ieee.{Float, binary64, fits, round, le}
+use lib.Ieee.Fits.{mul-fits}
 use Rattle.f64_helpers.specs.F64.{_⊖_, _>ᶠ_, _≤ᶠ_, decimal}
-use Rattle.f64_helpers.proofs.Order.{le-lt, lt-le}
+use Rattle.f64_helpers.proofs.Order.{lt-le}
+use Rattle.f64_helpers.proofs.Sums.{above-lowered}
+use Rattle.box_choices.specs.declared.Choices.{Choices}
 use Rattle.cdl_recurrences.specs.CdlRecurrences.{greater-hysteretic}
 use Rattle.cdl_recurrences.specs.DeadBand.{output-after, Related}
 use Rattle.cdl_recurrences.proofs.DeadBandLaw.{OnSince, on-since-law, dead-band-two-histories}
@@ -19,11 +22,7 @@ use Rattle.nights.proofs.Histories.{in-order, extended, in-order-extend
 abbrev pub high-after : Float → List Tick → Bool
 high-after limit = output-after (λ previous k. greater-hysteretic (flow k) limit (decimal 1 100) previous)
 
--- the lower limit is not above the upper one
-abbrev pub InOrder : Float → Type 0
-InOrder limit = T (limit ⊖ decimal 1 100 ≤ᶠ limit)
-
-module _ (limit : Float) (limits : InOrder limit) where
+module _ (limit : Float) (held : T (fits binary64 limit)) where
   abbrev below : Float
   below = limit ⊖ decimal 1 100
 
@@ -34,7 +33,7 @@ module _ (limit : Float) (limits : InOrder limit) where
   stays k = flow k >ᶠ below
 
   rises-stays : (k : Tick) → T (rises k) → T (stays k)
-  rises-stays k p = le-lt below limit (flow k) limits p
+  rises-stays k p = above-lowered (flow k) limit (decimal 1 100) held (unfold round le in tt) p
 
   -- ---- over a history, going back one tick at a time
   high-since : (h : List Tick) → T (high-after limit h) ↔ OnSince rises stays h
@@ -74,9 +73,8 @@ module _ (limit : Float) (limits : InOrder limit) where
   rule-for ks = rw (stepped-is-high-after [] ks) (subst (λ (l : List Tick). T (high-after limit (extended [] ks)) ↔ FlowHigh limit l) (in-order-extended [] ks) (high-law (extended [] ks)))
 
 -- ---- at H
-pub limits-in-order : InOrder H
-unfolding round mul sub le
-limits-in-order = tt
+pub H-held : (choices : Choices) → T (fits binary64 (H choices))
+H-held choices = mul-fits binary64 (decimal 1 10) (choices .«design_cooling_maximum_flow»)
 
-pub flow-high-rule : FlowHighRule
-flow-high-rule = rule-for H limits-in-order
+pub flow-high-rule : (choices : Choices) → FlowHighRule choices
+flow-high-rule choices = rule-for (H choices) (H-held choices)

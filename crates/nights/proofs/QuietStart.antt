@@ -6,6 +6,7 @@ use lib.Ieee.{Float, round, neg, sub, add, mul, lt, le, eq, isNan}
 use Rattle.f64_helpers.specs.F64.{decimal}
 use Rattle.f64_helpers.specs.Helpers.{max}
 use Rattle.f64_helpers.proofs.Tests.{and-false}
+use Rattle.box_choices.specs.declared.Choices.{Choices}
 use Rattle.cdl_recurrences.specs.CdlRecurrences.{true-delay-output, hysteresis, less-hysteretic, greater-hysteretic}
 use Rattle.cdl_recurrences.specs.DeadBand.{Related}
 use Rattle.cdl_recurrences.specs.declared.OptionalTime.{OptionalTime}
@@ -16,12 +17,11 @@ use Rattle.cooling_only_controller_airflow.specs.Airflow.{damper, alarms}
 use Rattle.cooling_only_controller_airflow.specs.declared.AlarmsState.{AlarmsState}
 use Rattle.cooling_only_controller.specs.Controller.{controller-output}
 use Rattle.cooling_only_controller.specs.declared.ControllerStep.{ControllerStep}
-use Rattle.air_box.specs.AirBox.{fresh-box, delay-on-init, decided, accepted-tick, tick, questions, outputs-or-number}
+use Rattle.air_box.specs.AirBox.{unticked, decided, accepted-tick, tick, questions, outputs-or-number}
 use Rattle.air_box.specs.Demand1.{AllYes, FirstNo}
 use Rattle.air_box.specs.Demand2.{controller-step-of}
 use Rattle.air_box.specs.declared.Tick.{Tick}
 use Rattle.air_box.specs.declared.AirBox.{AirBox}
-use Rattle.air_box.specs.declared.Start.{Start}
 use Rattle.air_box.specs.declared.AirBoxStep.{AirBoxStep}
 use Rattle.air_box.specs.declared.Answer.the-variants.{Refused}
 use Rattle.air_box.specs.declared.Refusal.{Refusal}
@@ -32,18 +32,18 @@ use Rattle.nights.specs.Nights.{NightStep, steps, fan}
 use Rattle.nights.specs.QuietStart.{alarms-armed, old-alarms, controller-with, old-accepted-tick, old-decided, old-tick, old-steps, box-after, OnePlace, PlainUntouched, NineOutputs, NeverLater, SameFields, SameButLowAirflow, EveryNight, SameFromAStop, BenchCase, QuietStart}
 use Rattle.nights.proofs.Histories.{newest-time}
 use Rattle.nights.proofs.AcceptedTicks.{AllAccepted}
-use Rattle.nights.proofs.Grown.{grown, grown-last, grown-start, grown-accepts, grown-refuses}
+use Rattle.nights.proofs.Grown.{grown, grown-last, grown-choices, grown-accepts, grown-refuses}
 use Rattle.nights.proofs.LowAirflowAlarm.{Taken, AlarmsAlong, never-later}
 
 one-place : OnePlace
 unfolding alarms alarms-armed controller-output
-one-place = record { stage = λ s t input delay-on-init. refl; controller = λ s t input delay-on-init. refl }
+one-place = record { stage = λ s t input choices. refl; controller = λ s t input choices. refl }
 
 -- ---- where the arming delay steps alike, so does the box
 abbrev ArmsAlike : AirBox → Tick → Type 0
 ArmsAlike box k =
     let arming = box .state .alarms .«fan_armed» in
-    true-delay arming (k .t) (fan k) (decimal 1800 1) false ≡ true-delay arming (k .t) (fan k) (decimal 1800 1) (delay-on-init (box .start))
+    true-delay arming (k .t) (fan k) (decimal 1800 1) false ≡ true-delay arming (k .t) (fan k) (decimal 1800 1) (box .choices .quiet)
 
 decided-alike : (v : Verdict) (box : AirBox) (k : Tick) → ArmsAlike box k → decided v box k ≡ old-decided v box k
 unfolding accepted-tick old-accepted-tick controller-output alarms alarms-armed
@@ -80,7 +80,7 @@ unfolding tick
 steps-alike box [] e = refl
 steps-alike box (k ∷ ks) e =
     steps-from box box k ks
-    (tick-alike box k (on-init-at-the-first-alone _ (k .t) (fan k) (decimal 1800 1) (delay-on-init (box .start)) (e .0) (e .1)))
+    (tick-alike box k (on-init-at-the-first-alone _ (k .t) (fan k) (decimal 1800 1) (box .choices .quiet) (e .0) (e .1)))
     (steps-alike (tick box k .state) ks (still-ticked (questions (box .«last_time») k) box k e))
 
 -- ---- one accepted tick of two boxes that hold the same but for the three delays
@@ -97,11 +97,11 @@ with-alarms a box =
         alarms = a;
       };
       «last_time» = box .«last_time»;
-      start = box .start;
+      choices = box .choices;
     }
 
 abbrev old-step-of : AirBox → Tick → ControllerStep
-old-step-of box k = controller-with old-alarms (box .state) (k .t) (k .input) (delay-on-init (box .start))
+old-step-of box k = controller-with old-alarms (box .state) (k .t) (k .input) (box .choices)
 
 -- the old box is the new one with its own alarms
 old-box : (new old : AirBox) → SameFields new old → old ≡ with-alarms (old .state .alarms) new
@@ -114,7 +114,7 @@ old-box new old same =
       same .dampers,
       same .system-requests,
       same .last-time,
-      same .start,
+      same .choices,
     )
 
 fields-of : (new old : AirBox) (k : Tick) → SameFields new old → SameFields (accepted-tick new k .state) (old-accepted-tick old k .state)
@@ -136,7 +136,7 @@ fields-of new old k same =
       damper-closed = rw (same .damper-closed);
       leak-delay = rw (same .damper-closed, same .flow-high, same .leak-delay);
       last-time = refl;
-      start = refl;
+      choices = refl;
     }
 
 outputs-of : (new old : AirBox) (k : Tick) → SameFields new old → NineOutputs (controller-step-of new k .output) (old-step-of old k .output)
@@ -162,12 +162,12 @@ stop-alike new old k same off =
     (rw (off, same .setpoint-nonzero, same .setpoint-on, same .low-half, same .low-seventy, same .flow-high, same .sensor-delay, same .damper-closed, same .leak-delay, and-false, and-false))
 
 -- ---- both boxes after a history of accepted ticks
-abbrev old-grown : Start → List Tick → AirBox
-old-grown start [] = fresh-box start
-old-grown start (k ∷ h) = old-accepted-tick (old-grown start h) k .state
+abbrev old-grown : Choices → List Tick → AirBox
+old-grown choices [] = unticked choices
+old-grown choices (k ∷ h) = old-accepted-tick (old-grown choices h) k .state
 
-fields-kept : (start : Start) (h : List Tick) → SameFields (grown start h) (old-grown start h)
-fields-kept start [] = record {
+fields-kept : (choices : Choices) (h : List Tick) → SameFields (grown choices h) (old-grown choices h)
+fields-kept choices [] = record {
   time-suppression = refl;
   control-loops = refl;
   setpoints = refl;
@@ -183,106 +183,106 @@ fields-kept start [] = record {
   damper-closed = refl;
   leak-delay = refl;
   last-time = refl;
-  start = refl;
+  choices = refl;
 }
-fields-kept start (k ∷ h) = fields-of (grown start h) (old-grown start h) k (fields-kept start h)
+fields-kept choices (k ∷ h) = fields-of (grown choices h) (old-grown choices h) k (fields-kept choices h)
 
 -- ---- the low airflow alarm of both
 
 new-taken : (box : AirBox) (k : Tick)
-    → Taken false (delay-on-init (box .start)) k (box .state .alarms) (accepted-tick box k .state .state .alarms) (controller-step-of box k .output .«low_airflow_alarm»)
+    → Taken false (box .choices) k (box .state .alarms) (accepted-tick box k .state .state .alarms) (controller-step-of box k .output .«low_airflow_alarm»)
 unfolding accepted-tick old-accepted-tick controller-output alarms alarms-armed
 new-taken box k = (_, refl, refl, refl, refl)
 
 old-taken : (box : AirBox) (k : Tick)
-    → Taken (delay-on-init (box .start)) (delay-on-init (box .start)) k (box .state .alarms) (old-accepted-tick box k .state .state .alarms) (old-step-of box k .output .«low_airflow_alarm»)
+    → Taken (box .choices .quiet) (box .choices) k (box .state .alarms) (old-accepted-tick box k .state .state .alarms) (old-step-of box k .output .«low_airflow_alarm»)
 unfolding old-accepted-tick
 old-taken box k = (_, refl, refl, refl, refl)
 
-abbrev new-along : (start : Start) → AlarmsAlong false (delay-on-init start)
-new-along start = record {
-  after = λ h. grown start h .state .alarms;
-  level = λ h k. controller-step-of (grown start h) k .output .«low_airflow_alarm»;
+abbrev new-along : (choices : Choices) → AlarmsAlong false choices
+new-along choices = record {
+  after = λ h. grown choices h .state .alarms;
+  level = λ h k. controller-step-of (grown choices h) k .output .«low_airflow_alarm»;
   fresh = refl;
-  taken = λ h k. subst (λ (c : Start). Taken false (delay-on-init c) k (grown start h .state .alarms) (grown start (k ∷ h) .state .alarms) (controller-step-of (grown start h) k .output .«low_airflow_alarm»)) (grown-start start h) (new-taken (grown start h) k);
+  taken = λ h k. subst (λ (c : Choices). Taken false c k (grown choices h .state .alarms) (grown choices (k ∷ h) .state .alarms) (controller-step-of (grown choices h) k .output .«low_airflow_alarm»)) (grown-choices choices h) (new-taken (grown choices h) k);
 }
 
-abbrev old-along : (start : Start) → AlarmsAlong (delay-on-init start) (delay-on-init start)
-old-along start = record {
-  after = λ h. old-grown start h .state .alarms;
-  level = λ h k. old-step-of (old-grown start h) k .output .«low_airflow_alarm»;
+abbrev old-along : (choices : Choices) → AlarmsAlong (choices .quiet) choices
+old-along choices = record {
+  after = λ h. old-grown choices h .state .alarms;
+  level = λ h k. old-step-of (old-grown choices h) k .output .«low_airflow_alarm»;
   fresh = refl;
-  taken = λ h k. subst (λ (c : Start). Taken (delay-on-init c) (delay-on-init c) k (old-grown start h .state .alarms) (old-grown start (k ∷ h) .state .alarms) (old-step-of (old-grown start h) k .output .«low_airflow_alarm»)) (sym (fields-kept start h .start) ∙ grown-start start h) (old-taken (old-grown start h) k);
+  taken = λ h k. subst (λ (c : Choices). Taken (c .quiet) c k (old-grown choices h .state .alarms) (old-grown choices (k ∷ h) .state .alarms) (old-step-of (old-grown choices h) k .output .«low_airflow_alarm»)) (sym (fields-kept choices h .choices) ∙ grown-choices choices h) (old-taken (old-grown choices h) k);
 }
 
-earlier-or-same : (start : Start) (h : List Tick) (k : Tick) → AllAccepted (k ∷ h) → NeverLater (controller-step-of (grown start h) k .output) (old-step-of (old-grown start h) k .output)
-earlier-or-same start = never-later (delay-on-init start) (new-along start) (old-along start) (λ h.
-    let same = fields-kept start h in record { low-half = same .low-half; low-seventy = same .low-seventy; setpoint-on = same .setpoint-on })
+earlier-or-same : (choices : Choices) (h : List Tick) (k : Tick) → AllAccepted (k ∷ h) → NeverLater (controller-step-of (grown choices h) k .output) (old-step-of (old-grown choices h) k .output)
+earlier-or-same choices = never-later choices (new-along choices) (old-along choices) (λ h.
+    let same = fields-kept choices h in record { low-half = same .low-half; low-seventy = same .low-seventy; setpoint-on = same .setpoint-on })
 
 -- ---- along a night
-old-last : (start : Start) (h : List Tick) → old-grown start h .«last_time» ≡ newest-time h
-old-last start h = sym (fields-kept start h .last-time) ∙ grown-last start h
+old-last : (choices : Choices) (h : List Tick) → old-grown choices h .«last_time» ≡ newest-time h
+old-last choices h = sym (fields-kept choices h .last-time) ∙ grown-last choices h
 
-old-accepts : (start : Start) (h : List Tick) (k : Tick) → AllYes (newest-time h) k → old-tick (old-grown start h) k ≡ old-accepted-tick (old-grown start h) k
+old-accepts : (choices : Choices) (h : List Tick) (k : Tick) → AllYes (newest-time h) k → old-tick (old-grown choices h) k ≡ old-accepted-tick (old-grown choices h) k
 unfolding old-tick
-old-accepts start h k all = rw (old-last start h, questions-accept (newest-time h) k .1 all)
+old-accepts choices h k all = rw (old-last choices h, questions-accept (newest-time h) k .1 all)
 
-old-refuses : (start : Start) (h : List Tick) (k : Tick) (reason : Refusal) → FirstNo reason (newest-time h) k → old-tick (old-grown start h) k ≡ record { state = old-grown start h; answer = Refused reason }
+old-refuses : (choices : Choices) (h : List Tick) (k : Tick) (reason : Refusal) → FirstNo reason (newest-time h) k → old-tick (old-grown choices h) k ≡ record { state = old-grown choices h; answer = Refused reason }
 unfolding old-tick
-old-refuses start h k reason first = rw (old-last start h, questions-refuse (newest-time h) k reason .1 first)
+old-refuses choices h k reason first = rw (old-last choices h, questions-refuse (newest-time h) k reason .1 first)
 
 abbrev Both : Tick → List Tick → AirBoxStep → AirBoxStep → Type 0
 Both k ks new old =
     Related SameButLowAirflow (record { ticked = k; given = outputs-or-number (new .answer); box = new .state } ∷ steps (new .state) ks)
     (record { ticked = k; given = outputs-or-number (old .answer); box = old .state } ∷ old-steps (old .state) ks)
 
-along-both : (start : Start) (h ks : List Tick) → AllAccepted h → Related SameButLowAirflow (steps (grown start h) ks) (old-steps (old-grown start h) ks)
+along-both : (choices : Choices) (h ks : List Tick) → AllAccepted h → Related SameButLowAirflow (steps (grown choices h) ks) (old-steps (old-grown choices h) ks)
 unfolding accepted-tick old-accepted-tick
-along-both start h [] a = tt
-along-both start h (k ∷ ks) a =
+along-both choices h [] a = tt
+along-both choices h (k ∷ ks) a =
     by-verdict (newest-time h) k
     (λ all.
-    subst (λ (new : AirBoxStep). Both k ks new (old-tick (old-grown start h) k)) (sym (grown-accepts start h k all))
-    (subst (λ (old : AirBoxStep). Both k ks (accepted-tick (grown start h) k) old) (sym (old-accepts start h k all)) (
-      record { ticked = refl; given = (outputs-of _ _ k (fields-kept start h), earlier-or-same start h k (all, a)); fields = fields-kept start (k ∷ h) },
-      along-both start (k ∷ h) ks (all, a),
+    subst (λ (new : AirBoxStep). Both k ks new (old-tick (old-grown choices h) k)) (sym (grown-accepts choices h k all))
+    (subst (λ (old : AirBoxStep). Both k ks (accepted-tick (grown choices h) k) old) (sym (old-accepts choices h k all)) (
+      record { ticked = refl; given = (outputs-of _ _ k (fields-kept choices h), earlier-or-same choices h k (all, a)); fields = fields-kept choices (k ∷ h) },
+      along-both choices (k ∷ h) ks (all, a),
     )))
     (λ reason first.
-    subst (λ (new : AirBoxStep). Both k ks new (old-tick (old-grown start h) k)) (sym (grown-refuses start h k reason first))
-    (subst (λ (old : AirBoxStep). Both k ks (record { state = grown start h; answer = Refused reason }) old) (sym (old-refuses start h k reason first))
-    (record { ticked = refl; given = refl; fields = fields-kept start h }, along-both start h ks a)))
+    subst (λ (new : AirBoxStep). Both k ks new (old-tick (old-grown choices h) k)) (sym (grown-refuses choices h k reason first))
+    (subst (λ (old : AirBoxStep). Both k ks (record { state = grown choices h; answer = Refused reason }) old) (sym (old-refuses choices h k reason first))
+    (record { ticked = refl; given = refl; fields = fields-kept choices h }, along-both choices h ks a)))
 
 every-night : EveryNight
-every-night start night = along-both start [] night tt
+every-night choices night = along-both choices [] night tt
 
 -- ---- from the fan's stop on
 -- what a night has come to: a history that both boxes have accepted
-abbrev Reached : Start → List Tick → AirBox → AirBox → Type 0
-Reached start ks new old = (g : List Tick) × AllAccepted g × (box-after tick new ks ≡ grown start g) × (box-after old-tick old ks ≡ old-grown start g)
+abbrev Reached : Choices → List Tick → AirBox → AirBox → Type 0
+Reached choices ks new old = (g : List Tick) × AllAccepted g × (box-after tick new ks ≡ grown choices g) × (box-after old-tick old ks ≡ old-grown choices g)
 
-reached : (start : Start) (h ks : List Tick) → AllAccepted h → Reached start ks (grown start h) (old-grown start h)
-reached start h [] a = (h, a, refl, refl)
-reached start h (k ∷ ks) a =
+reached : (choices : Choices) (h ks : List Tick) → AllAccepted h → Reached choices ks (grown choices h) (old-grown choices h)
+reached choices h [] a = (h, a, refl, refl)
+reached choices h (k ∷ ks) a =
     by-verdict (newest-time h) k
     (λ all.
-    subst (λ (new : AirBoxStep). Reached start ks (new .state) (old-tick (old-grown start h) k .state)) (sym (grown-accepts start h k all))
-    (subst (λ (old : AirBoxStep). Reached start ks (grown start (k ∷ h)) (old .state)) (sym (old-accepts start h k all)) (reached start (k ∷ h) ks (all, a))))
+    subst (λ (new : AirBoxStep). Reached choices ks (new .state) (old-tick (old-grown choices h) k .state)) (sym (grown-accepts choices h k all))
+    (subst (λ (old : AirBoxStep). Reached choices ks (grown choices (k ∷ h)) (old .state)) (sym (old-accepts choices h k all)) (reached choices (k ∷ h) ks (all, a))))
     (λ reason first.
-    subst (λ (new : AirBoxStep). Reached start ks (new .state) (old-tick (old-grown start h) k .state)) (sym (grown-refuses start h k reason first))
-    (subst (λ (old : AirBoxStep). Reached start ks (grown start h) (old .state)) (sym (old-refuses start h k reason first)) (reached start h ks a)))
+    subst (λ (new : AirBoxStep). Reached choices ks (new .state) (old-tick (old-grown choices h) k .state)) (sym (grown-refuses choices h k reason first))
+    (subst (λ (old : AirBoxStep). Reached choices ks (grown choices h) (old .state)) (sym (old-refuses choices h k reason first)) (reached choices h ks a)))
 
-stopped : (start : Start) (h : List Tick) (k : Tick) (rest : List Tick) → AllYes (newest-time h) k → fan k ≡ false → steps (grown start h) (k ∷ rest) ≡ old-steps (old-grown start h) (k ∷ rest)
-stopped start h k rest all off =
-    let new = grown start h in
-    let old = old-grown start h in
+stopped : (choices : Choices) (h : List Tick) (k : Tick) (rest : List Tick) → AllYes (newest-time h) k → fan k ≡ false → steps (grown choices h) (k ∷ rest) ≡ old-steps (old-grown choices h) (k ∷ rest)
+stopped choices h k rest all off =
+    let new = grown choices h in
+    let old = old-grown choices h in
     steps-from new old k rest
-    (grown-accepts start h k all ∙ stop-alike new old k (fields-kept start h) off ∙ sym (old-accepts start h k all))
-    (steps-alike (tick new k .state) rest (rw (grown-accepts start h k all) (accepted-ticked new k)))
+    (grown-accepts choices h k all ∙ stop-alike new old k (fields-kept choices h) off ∙ sym (old-accepts choices h k all))
+    (steps-alike (tick new k .state) rest (rw (grown-accepts choices h k all) (accepted-ticked new k)))
 
 same-from-a-stop : SameFromAStop
-same-from-a-stop start before k rest all off =
-    let (g, a, new, old) = reached start [] before tt in
-    rw (new, old) (stopped start g k rest (subst (λ (last : OptionalTime). AllYes last k) (ap (λ (b : AirBox). b .«last_time») new ∙ grown-last start g) all) off)
+same-from-a-stop choices before k rest all off =
+    let (g, a, new, old) = reached choices [] before tt in
+    rw (new, old) (stopped choices g k rest (subst (λ (last : OptionalTime). AllYes last k) (ap (λ (b : AirBox). b .«last_time») new ∙ grown-last choices g) all) off)
 
 bench-case : BenchCase
 unfolding questions accepted-tick tick controller-output damper alarms old-accepted-tick old-tick alarms-armed

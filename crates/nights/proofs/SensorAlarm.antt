@@ -7,28 +7,28 @@ use native.Mathlib.Omega.{arith}
 use mathlib.Core.Bool.{Bool, true, false, not, _&&_}
 use lib.IntN.{ℤ, pos}
 use lib.Dec.{T}
-use lib.Ieee.{Float}
+use lib.Ieee.{Float, binary64, fits}
 use lib.Ieee.Fits.{and-i, and-l, and-r}
 use Rattle.f64_helpers.specs.F64.{decimal, if_then_else_}
 use Rattle.f64_helpers.specs.Integers.{_==ᶻ_}
 use Rattle.f64_helpers.proofs.Integers.{equals-means}
 use Rattle.f64_helpers.proofs.WholeSeconds.{Reach}
+use Rattle.box_choices.specs.declared.Choices.{Choices}
 use Rattle.cooling_only_controller_timing.specs.History.{true-delay-after}
 use Rattle.cooling_only_controller_timing.specs.declared.TrueDelayState.{TrueDelayState}
 use Rattle.cooling_only_controller_timing.proofs.TrueDelayLaw.{held-is-output}
 use Rattle.cooling_only_controller_airflow.specs.Airflow.{alarms}
 use Rattle.cooling_only_controller_airflow.proofs.AlarmsByFan.{level-or-none}
 use Rattle.cooling_only_controller.specs.Controller.{controller-output}
-use Rattle.air_box.specs.AirBox.{delay-on-init, accepted-tick}
+use Rattle.air_box.specs.AirBox.{accepted-tick}
 use Rattle.air_box.specs.Demand2.{controller-step-of}
 use Rattle.air_box.specs.declared.Tick.{Tick}
-use Rattle.air_box.specs.declared.Start.{Start}
 use Rattle.nights.specs.Nights.{fan, mode, HighFanOff}
 use Rattle.nights.specs.Demand3.{H}
 use Rattle.nights.proofs.Histories.{in-order}
 use Rattle.nights.proofs.AcceptedTicks.{decimal-reached}
-use Rattle.nights.proofs.Grown.{grown, grown-start}
-use Rattle.nights.proofs.FlowHighRule.{high-after, InOrder, high-law}
+use Rattle.nights.proofs.Grown.{grown, grown-choices}
+use Rattle.nights.proofs.FlowHighRule.{high-after, high-law}
 use Rattle.nights.proofs.Conditions.{samples}
 
 -- ---- the delay's input: flow is high with the fan off
@@ -36,10 +36,10 @@ abbrev pub high-fan-off : Float → List Tick → Bool
 high-fan-off limit [] = false
 high-fan-off limit (k ∷ h) = high-after limit (k ∷ h) && not (fan k)
 
-pub high-fan-off-means : (limit : Float) → InOrder limit → (h : List Tick) (k : Tick) → T (high-fan-off limit (k ∷ h)) ↔ HighFanOff limit (in-order h) k
-high-fan-off-means limit limits h k =
+pub high-fan-off-means : (limit : Float) → T (fits binary64 limit) → (h : List Tick) (k : Tick) → T (high-fan-off limit (k ∷ h)) ↔ HighFanOff limit (in-order h) k
+high-fan-off-means limit held h k =
     let high = high-after limit (k ∷ h) in
-    let law = high-law limit limits (k ∷ h) in (
+    let law = high-law limit held (k ∷ h) in (
       λ u. (law .0 (and-l high (not (fan k)) u), and-r high (not (fan k)) u),
       λ f. and-i high (not (fan k)) (law .1 (f .0)) (f .1),
     )
@@ -48,40 +48,40 @@ pub delay-reached : Reach (decimal 600 1) 600
 delay-reached = decimal-reached 600 (omega arith)
 
 -- ---- the memories
-abbrev pub sensor-delay-after : Start → List Tick → TrueDelayState
-sensor-delay-after start h = true-delay-after (decimal 600 1) (delay-on-init start) (samples (high-fan-off H) h)
+abbrev pub sensor-delay-after : Choices → List Tick → TrueDelayState
+sensor-delay-after choices h = true-delay-after (decimal 600 1) (choices .quiet) (samples (high-fan-off (H choices)) h)
 
-flow-high-kept : (start : Start) (h : List Tick) → grown start h .state .alarms .«flow_high» ≡ high-after H h
+flow-high-kept : (choices : Choices) (h : List Tick) → grown choices h .state .alarms .«flow_high» ≡ high-after (H choices) h
 unfolding accepted-tick controller-output alarms
-flow-high-kept start [] = refl
-flow-high-kept start (k ∷ h) = rw (flow-high-kept start h)
+flow-high-kept choices [] = refl
+flow-high-kept choices (k ∷ h) = rw (flow-high-kept choices h, grown-choices choices h)
 
-sensor-delay-kept : (start : Start) (h : List Tick) → grown start h .state .alarms .«sensor_delay» ≡ sensor-delay-after start h
+sensor-delay-kept : (choices : Choices) (h : List Tick) → grown choices h .state .alarms .«sensor_delay» ≡ sensor-delay-after choices h
 unfolding accepted-tick controller-output alarms
-sensor-delay-kept start [] = refl
-sensor-delay-kept start (k ∷ h) = rw (sensor-delay-kept start h, flow-high-kept start h, grown-start start h)
+sensor-delay-kept choices [] = refl
+sensor-delay-kept choices (k ∷ h) = rw (sensor-delay-kept choices h, flow-high-kept choices h, grown-choices choices h)
 
 -- ---- the alarm at the accepted tick k after the history h
-abbrev alarm-at : Start → List Tick → Tick → ℤ
-alarm-at start h k = controller-step-of (grown start h) k .output .«airflow_sensor_alarm»
+abbrev alarm-at : Choices → List Tick → Tick → ℤ
+alarm-at choices h k = controller-step-of (grown choices h) k .output .«airflow_sensor_alarm»
 
-alarm-by-memories : (start : Start) (h : List Tick) (k : Tick) → alarm-at start h k ≡ (if sensor-delay-after start (k ∷ h) .held && (mode k ==ᶻ 1) then pos 3 else pos 0)
+alarm-by-memories : (choices : Choices) (h : List Tick) (k : Tick) → alarm-at choices h k ≡ (if sensor-delay-after choices (k ∷ h) .held && (mode k ==ᶻ 1) then pos 3 else pos 0)
 unfolding controller-output alarms
-alarm-by-memories start h k = rw (held-is-output, sensor-delay-kept start h, flow-high-kept start h, grown-start start h)
+alarm-by-memories choices h k = rw (held-is-output, sensor-delay-kept choices h, flow-high-kept choices h, grown-choices choices h)
 
 three-if : (b : Bool) → ((if b then pos 3 else pos 0) ≡ pos 3) ↔ T b
 three-if true = (λ e. tt, λ t. refl)
 three-if false = (λ e. let z : _≡_ {A = ℕ} 0 1 = cc in omega arith, λ t. absurd t)
 
 -- it is 3 exactly if the mode is 1 and the delay's output is true; else it is 0
-pub alarm-is-three : (start : Start) (h : List Tick) (k : Tick) → (alarm-at start h k ≡ pos 3) ↔ ((mode k ≡ pos 1) × T (sensor-delay-after start (k ∷ h) .held))
-alarm-is-three start h k =
-    let held = sensor-delay-after start (k ∷ h) .held in
+pub alarm-is-three : (choices : Choices) (h : List Tick) (k : Tick) → (alarm-at choices h k ≡ pos 3) ↔ ((mode k ≡ pos 1) × T (sensor-delay-after choices (k ∷ h) .held))
+alarm-is-three choices h k =
+    let held = sensor-delay-after choices (k ∷ h) .held in
     let level = three-if (held && (mode k ==ᶻ 1)) in
-    rw (alarm-by-memories start h k) (
+    rw (alarm-by-memories choices h k) (
       λ e. (equals-means (mode k) 1 .0 (and-r held (mode k ==ᶻ 1) (level .0 e)), and-l held (mode k ==ᶻ 1) (level .0 e)),
       λ p. level .1 (and-i held (mode k ==ᶻ 1) (p .1) (equals-means (mode k) 1 .1 (p .0))),
     )
 
-pub alarm-three-or-none : (start : Start) (h : List Tick) (k : Tick) → (alarm-at start h k ≡ pos 3) ⊎ (alarm-at start h k ≡ pos 0)
-alarm-three-or-none start h k = rw (alarm-by-memories start h k) (level-or-none 3 (sensor-delay-after start (k ∷ h) .held && (mode k ==ᶻ 1)))
+pub alarm-three-or-none : (choices : Choices) (h : List Tick) (k : Tick) → (alarm-at choices h k ≡ pos 3) ⊎ (alarm-at choices h k ≡ pos 0)
+alarm-three-or-none choices h k = rw (alarm-by-memories choices h k) (level-or-none 3 (sensor-delay-after choices (k ∷ h) .held && (mode k ==ᶻ 1)))

@@ -7,14 +7,13 @@ use Rattle.f64_helpers.specs.F64.{decimal}
 use Rattle.f64_helpers.specs.Seconds.{seconds, IsTime}
 use Rattle.f64_helpers.proofs.WholeSeconds.{eq-whole}
 use Rattle.cdl_recurrences.specs.DeadBand.{Related}
-use Rattle.air_box.specs.AirBox.{delay-on-init}
+use Rattle.box_choices.specs.declared.Choices.{Choices}
 use Rattle.air_box.specs.declared.Tick.{Tick}
-use Rattle.air_box.specs.declared.Start.{Start}
 use Rattle.nights.specs.Nights.{Shown, night-of, shown, fan}
 use Rattle.nights.specs.Demand3.{H, NoWeaker, ThreeIfThree, TwoNights}
 use Rattle.nights.proofs.AcceptedTicks.{AllAccepted}
 use Rattle.nights.proofs.Grown.{ShownAfter, shown-after}
-use Rattle.nights.proofs.FlowHighRule.{high-after, high-kept, limits-in-order}
+use Rattle.nights.proofs.FlowHighRule.{high-after, high-kept, H-held}
 use Rattle.nights.proofs.Conditions.{held-kept}
 use Rattle.nights.proofs.SensorAlarm.{high-fan-off, delay-reached, alarm-is-three}
 
@@ -29,27 +28,27 @@ fan-off-kept true true true d f g t = absurd t
 fan-off-kept true false c d f g t = absurd (f tt)
 fan-off-kept false b c d f g t = absurd t
 
-carried : (g h : List Tick) → Related NoWeaker g h → T (high-fan-off H g) → T (high-fan-off H h)
-carried [] [] r t = t
-carried [] (k ∷ h) r t = absurd r
-carried (j ∷ g) [] r t = absurd r
-carried (j ∷ g) (k ∷ h) r t = fan-off-kept (high-after H (j ∷ g)) (high-after H (k ∷ h)) (fan j) (fan k) (high-kept H limits-in-order NoWeaker (λ j k w. w .flows) (j ∷ g) (k ∷ h) r) (r .0 .fans) t
+carried : (choices : Choices) (g h : List Tick) → Related NoWeaker g h → T (high-fan-off (H choices) g) → T (high-fan-off (H choices) h)
+carried choices [] [] r t = t
+carried choices [] (k ∷ h) r t = absurd r
+carried choices (j ∷ g) [] r t = absurd r
+carried choices (j ∷ g) (k ∷ h) r t = fan-off-kept (high-after (H choices) (j ∷ g)) (high-after (H choices) (k ∷ h)) (fan j) (fan k) (high-kept (H choices) (H-held choices) NoWeaker (λ j k w. w .flows) (j ∷ g) (k ∷ h) r) (r .0 .fans) t
 
 -- ---- along two nights
-three-kept : (start : Start) (g h : List Tick) (ss rs : List Shown) → AllAccepted g → AllAccepted h → Related NoWeaker g h → ShownAfter start g ss → ShownAfter start h rs
+three-kept : (choices : Choices) (g h : List Tick) (ss rs : List Shown) → AllAccepted g → AllAccepted h → Related NoWeaker g h → ShownAfter choices g ss → ShownAfter choices h rs
     → Related (λ (a b : Shown). NoWeaker (a .ticked) (b .ticked)) ss rs → Related (λ (a b : Shown). ThreeIfThree (a .output) (b .output)) ss rs
-three-kept start g h [] [] a b r p q w = tt
-three-kept start g h [] (k ∷ rs) a b r p q w = absurd w
-three-kept start g h (j ∷ ss) [] a b r p q w = absurd w
-three-kept start g h (j ∷ ss) (k ∷ rs) a b r p q w = (
+three-kept choices g h [] [] a b r p q w = tt
+three-kept choices g h [] (k ∷ rs) a b r p q w = absurd w
+three-kept choices g h (j ∷ ss) [] a b r p q w = absurd w
+three-kept choices g h (j ∷ ss) (k ∷ rs) a b r p q w = (
   rw (p .1, q .1) (λ e.
-      let f = alarm-is-three start g (j .ticked) .0 e in
-      alarm-is-three start h (k .ticked) .1 (
+      let f = alarm-is-three choices g (j .ticked) .0 e in
+      alarm-is-three choices h (k .ticked) .1 (
         sym (w .0 .modes) ∙ f .0,
-        held-kept (high-fan-off H) NoWeaker same-seconds carried (decimal 600 1) 600 delay-reached (delay-on-init start) (j .ticked ∷ g) (k .ticked ∷ h) (p .0, a) (q .0, b) (w .0, r) (f .1),
+        held-kept (high-fan-off (H choices)) NoWeaker same-seconds (carried choices) (decimal 600 1) 600 delay-reached (choices .quiet) (j .ticked ∷ g) (k .ticked ∷ h) (p .0, a) (q .0, b) (w .0, r) (f .1),
       )),
-  three-kept start (j .ticked ∷ g) (k .ticked ∷ h) ss rs (p .0, a) (q .0, b) (w .0, r) (p .2) (q .2) (w .1),
+  three-kept choices (j .ticked ∷ g) (k .ticked ∷ h) ss rs (p .0, a) (q .0, b) (w .0, r) (p .2) (q .2) (w .1),
 )
 
-pub two-nights : (start : Start) → TwoNights start
-two-nights start first second = three-kept start [] [] (shown (night-of start first)) (shown (night-of start second)) tt tt tt (shown-after start [] first) (shown-after start [] second)
+pub two-nights : (choices : Choices) → TwoNights choices
+two-nights choices first second = three-kept choices [] [] (shown (night-of choices first)) (shown (night-of choices second)) tt tt tt (shown-after choices [] first) (shown-after choices [] second)

@@ -1,4 +1,5 @@
--- Demand 3: the claim about whole nights, on a box freshly built with a plain start.
+-- Demand 3: the claim about whole nights, on a box freshly built with a plain start, of any design flows (document 02, N13).
+-- No number is asked to lie in a range here: it holds of every two numbers that stand in a box as its design flows.
 -- A night is any list of ticks, and each of its ticks stands beside what the box gave for it: outputs, if it was accepted, or a number.
 use mathlib.Core.Path.{_≡_}
 use mathlib.Core.Logic.{_↔_, _⊎_, inl, inr}
@@ -9,14 +10,13 @@ use lib.IntN.{ℤ, pos}
 use lib.Dec.{T}
 use lib.Ieee.{Float, eq}
 use Rattle.f64_helpers.specs.F64.{_⊗_, _≤ᶠ_, decimal}
+use Rattle.box_choices.specs.declared.Choices.{Choices}
 use Rattle.cdl_recurrences.specs.DeadBand.{Related}
 use Rattle.cooling_only_controller.specs.declared.ControllerOutput.{ControllerOutput}
-use Rattle.air_box.specs.AirBox.{refusal-number, delay-on-init}
+use Rattle.air_box.specs.AirBox.{refusal-number}
 use Rattle.air_box.specs.Demand1.{AllYes, FirstNo}
 use Rattle.air_box.specs.declared.Tick.{Tick}
 use Rattle.air_box.specs.declared.Refusal.{Refusal}
-use Rattle.air_box.specs.declared.Start.{Start}
-use Rattle.air_box.specs.declared.Start.the-variants.{Plain}
 use Rattle.nights.specs.Nights.{
   NightStep,
   night-of,
@@ -35,33 +35,33 @@ use Rattle.nights.specs.Nights.{
 
 -- ---- the flow-high rule
 
--- H, as an f64 operation
-abbrev pub H : Float
-H = decimal 1 10 ⊗ decimal 15 10
+-- H of a box, as an f64 operation on its cooling maximum
+abbrev pub H : Choices → Float
+H choices = decimal 1 10 ⊗ choices .«design_cooling_maximum_flow»
 
 -- The rule over a history agrees with what `greater_hysteretic` does step by step, from a fresh memory.
-abbrev pub FlowHighRule : Type 0
-FlowHighRule = (ks : List Tick) → T (flow-high-stepped H false ks) ↔ FlowHigh H ks
+abbrev pub FlowHighRule : Choices → Type 0
+FlowHighRule choices = (ks : List Tick) → T (flow-high-stepped (H choices) false ks) ↔ FlowHigh (H choices) ks
 
 -- ---- every night, exactly
 
 -- The alarm at k is 3 exactly if the mode there is 1 and flow has been high with the fan off at every accepted tick
 -- from one at least 600 seconds back, or, in a plain start, from the very first, up to k. Else it is 0.
-pub record ExactAlarm (start : Start) (earlier : List Tick) (k : Tick) (alarm : ℤ) : Type 0 where
-  pub three : (alarm ≡ pos 3) ↔ ((mode k ≡ pos 1) × HeldFor (HighFanOff H) 600 (delay-on-init start) (earlier ++ (k ∷ [])) k)
+pub record ExactAlarm (choices : Choices) (earlier : List Tick) (k : Tick) (alarm : ℤ) : Type 0 where
+  pub three : (alarm ≡ pos 3) ↔ ((mode k ≡ pos 1) × HeldFor (HighFanOff (H choices)) 600 (choices .quiet) (earlier ++ (k ∷ [])) k)
   pub else-none : (alarm ≡ pos 3) ⊎ (alarm ≡ pos 0)
 
 -- What is given for the tick k is right: outputs only if no question gets a "no" after the last accepted time,
 -- and then their alarm is exact; a number only if it is that of the first "no".
-abbrev pub ExactGiven : Start → List Tick → Tick → ControllerOutput ⊎ ℕ → Type 0
-ExactGiven start earlier k (inl output) = AllYes (last-time earlier) k × ExactAlarm start earlier k (output .«airflow_sensor_alarm»)
-ExactGiven start earlier k (inr number) = (reason : Refusal) × FirstNo reason (last-time earlier) k × (number ≡ refusal-number reason)
+abbrev pub ExactGiven : Choices → List Tick → Tick → ControllerOutput ⊎ ℕ → Type 0
+ExactGiven choices earlier k (inl output) = AllYes (last-time earlier) k × ExactAlarm choices earlier k (output .«airflow_sensor_alarm»)
+ExactGiven choices earlier k (inr number) = (reason : Refusal) × FirstNo reason (last-time earlier) k × (number ≡ refusal-number reason)
 
 -- At every tick of every night what is given is right.
-abbrev pub EveryNightExactly : Start → Type 0
-EveryNightExactly start =
+abbrev pub EveryNightExactly : Choices → Type 0
+EveryNightExactly choices =
     (night : List Tick)
-    → Along (λ (earlier : List Tick) (s : NightStep). ExactGiven start earlier (s .ticked) (s .given)) [] (night-of start night)
+    → Along (λ (earlier : List Tick) (s : NightStep). ExactGiven choices earlier (s .ticked) (s .given)) [] (night-of choices night)
 
 -- ---- two nights
 
@@ -77,16 +77,22 @@ pub record NoWeaker (j k : Tick) : Type 0 where
 abbrev pub ThreeIfThree : ControllerOutput → ControllerOutput → Type 0
 ThreeIfThree a b = a .«airflow_sensor_alarm» ≡ pos 3 → b .«airflow_sensor_alarm» ≡ pos 3
 
--- For every two nights whose accepted ticks are equally many and so related, first with first:
+-- For every two nights of boxes with equal design flows, whose accepted ticks are equally many and so related, first with first:
 -- the second shows alarm 3 wherever the first does. Refused ticks may differ in number and place.
-abbrev pub TwoNights : Start → Type 0
-TwoNights start =
+abbrev pub TwoNights : Choices → Type 0
+TwoNights choices =
     (first second : List Tick)
-    → Related (λ (a b : Shown). NoWeaker (a .ticked) (b .ticked)) (shown (night-of start first)) (shown (night-of start second))
-    → Related (λ (a b : Shown). ThreeIfThree (a .output) (b .output)) (shown (night-of start first)) (shown (night-of start second))
+    → Related (λ (a b : Shown). NoWeaker (a .ticked) (b .ticked)) (shown (night-of choices first)) (shown (night-of choices second))
+    → Related (λ (a b : Shown). ThreeIfThree (a .output) (b .output)) (shown (night-of choices first)) (shown (night-of choices second))
 
 -- ---- demand 3
+
+-- a plain start with these design flows
+abbrev pub plain : Float → Float → Choices
+plain minimum cooling-maximum =
+    record { quiet = false; «design_minimum_flow» = minimum; «design_cooling_maximum_flow» = cooling-maximum }
+
 pub record Demand3 : Type 0 where
-  pub flow-high-rule : FlowHighRule
-  pub every-night-exactly : EveryNightExactly Plain
-  pub two-nights : TwoNights Plain
+  pub flow-high-rule : (minimum cooling-maximum : Float) → FlowHighRule (plain minimum cooling-maximum)
+  pub every-night-exactly : (minimum cooling-maximum : Float) → EveryNightExactly (plain minimum cooling-maximum)
+  pub two-nights : (minimum cooling-maximum : Float) → TwoNights (plain minimum cooling-maximum)

@@ -11,14 +11,14 @@ use lib.Dec.{T}
 use lib.Ieee.{Float}
 use Rattle.f64_helpers.specs.F64.{_⊖_, _>ᶠ_, decimal}
 use Rattle.f64_helpers.specs.Seconds.{seconds}
+use Rattle.box_choices.specs.declared.Choices.{Choices}
 use Rattle.cdl_recurrences.specs.CdlRecurrences.{greater-hysteretic}
 use Rattle.cdl_recurrences.specs.declared.OptionalTime.{OptionalTime}
 use Rattle.cdl_recurrences.specs.declared.OptionalTime.the-variants.{Absent, At}
 use Rattle.cooling_only_controller.specs.declared.ControllerOutput.{ControllerOutput}
-use Rattle.air_box.specs.AirBox.{fresh-box, tick, given-for}
+use Rattle.air_box.specs.AirBox.{unticked, tick, given-for}
 use Rattle.air_box.specs.declared.Tick.{Tick}
 use Rattle.air_box.specs.declared.AirBox.{AirBox}
-use Rattle.air_box.specs.declared.Start.{Start}
 
 -- ---- a night, run
 
@@ -33,9 +33,9 @@ abbrev pub steps : AirBox → List Tick → List NightStep
 steps box [] = []
 steps box (k ∷ ks) = record { ticked = k; given = given-for box k; box = tick box k .state } ∷ steps (tick box k .state) ks
 
--- the night of a box that is freshly built
-abbrev pub night-of : Start → List Tick → List NightStep
-night-of start ticks = steps (fresh-box start) ticks
+-- the night of a box that has had no tick before it, by what was chosen when it was built
+abbrev pub night-of : Choices → List Tick → List NightStep
+night-of choices ticks = steps (unticked choices) ticks
 
 -- ---- the accepted ticks of a night: those for which the box gave outputs
 

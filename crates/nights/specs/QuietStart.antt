@@ -1,5 +1,6 @@
 -- Document 02, N4: under the quiet start the fan's arming delay starts as in a plain start. What moves by that, and what does not.
 -- The method `AirBox::tick` is proved to return `tick`, by which every night here is run; beside it stands the box as it was before N4.
+-- Both are of any design flows (N13).
 use mathlib.Core.Path.{_≡_}
 use mathlib.Core.Logic.{_⊎_, inl, inr}
 use mathlib.Core.List.{List, [], _∷_}
@@ -11,11 +12,13 @@ use lib.Ieee.{Float}
 use Rattle.f64_helpers.specs.F64.{_⊗_, decimal, zero as no-flow, if_then_else_}
 use Rattle.f64_helpers.specs.Integers.{_==ᶻ_}
 use Rattle.f64_helpers.specs.Seconds.{seconds}
+use Rattle.box_choices.specs.BoxChoices.{usual}
+use Rattle.box_choices.specs.declared.Choices.{Choices}
 use Rattle.cdl_recurrences.specs.CdlRecurrences.{greater-hysteretic, hysteresis, less-hysteretic}
 use Rattle.cdl_recurrences.specs.DeadBand.{Related}
 use Rattle.cdl_recurrences.specs.declared.OptionalTime.the-variants.{At}
 use Rattle.cooling_only_controller_timing.specs.Timing.{true-delay}
-use Rattle.cooling_only_controller_airflow.specs.Airflow.{DESIGN_COOLING_MAXIMUM_FLOW, FLOW_HYSTERESIS, DAMPER_POSITION_HYSTERESIS, alarms}
+use Rattle.cooling_only_controller_airflow.specs.Airflow.{FLOW_HYSTERESIS, DAMPER_POSITION_HYSTERESIS, alarms}
 use Rattle.cooling_only_controller_airflow.specs.declared.AlarmInput.{AlarmInput}
 use Rattle.cooling_only_controller_airflow.specs.declared.AlarmsState.{AlarmsState}
 use Rattle.cooling_only_controller_airflow.specs.declared.AlarmsStep.{AlarmsStep}
@@ -24,12 +27,10 @@ use Rattle.cooling_only_controller.specs.declared.ControllerInput.{ControllerIn
 use Rattle.cooling_only_controller.specs.declared.ControllerOutput.{ControllerOutput}
 use Rattle.cooling_only_controller.specs.declared.ControllerState.{ControllerState}
 use Rattle.cooling_only_controller.specs.declared.ControllerStep.{ControllerStep}
-use Rattle.air_box.specs.AirBox.{delay-on-init, questions, fresh-box, tick, outputs-or-number}
+use Rattle.air_box.specs.AirBox.{questions, unticked, tick, outputs-or-number}
 use Rattle.air_box.specs.BenchTick.{bench-tick}
 use Rattle.air_box.specs.Demand1.{AllYes}
 use Rattle.air_box.specs.declared.Tick.{Tick}
-use Rattle.air_box.specs.declared.Start.{Start}
-use Rattle.air_box.specs.declared.Start.the-variants.{Plain, Quiet}
 use Rattle.air_box.specs.declared.AirBox.{AirBox}
 use Rattle.air_box.specs.declared.AirBoxStep.{AirBoxStep}
 use Rattle.air_box.specs.declared.Answer.the-variants.{Accepted, Refused}
@@ -40,8 +41,9 @@ use Rattle.nights.specs.Nights.{NightStep, steps, night-of, fan}
 -- ---- the box before N4
 
 -- The alarms stage, `alarms` of Airflow.antt, for any delay_on_init of the arming delay: `arming`.
-unfoldable pub alarms-armed : Bool → AlarmsState → Float → AlarmInput → Bool → AlarmsStep
-alarms-armed arming s t input delay-on-init =
+unfoldable pub alarms-armed : Bool → AlarmsState → Float → AlarmInput → Choices → AlarmsStep
+alarms-armed arming s t input choices =
+    let delay-on-init = choices .quiet in
     let occupied = input .«operation_mode» ==ᶻ 1 in
     let fan-armed = true-delay (s .«fan_armed») t (input .«supply_fan_status») (decimal 1800 1) arming in
     let setpoint-nonzero = hysteresis (input .«active_airflow_setpoint») (decimal 5 1000) (decimal 1 100) (s .«setpoint_nonzero») in
@@ -55,7 +57,7 @@ alarms-armed arming s t input delay-on-init =
     let level-two = low-half-held .output && setpoint-on .output && occupied in
     let level-three = low-seventy-held .output && setpoint-on .output && occupied in
     let low-airflow = if level-two then pos 2 else if level-three then pos 3 else pos 0 in
-    let flow-high = greater-hysteretic (input .«discharge_airflow») (decimal 1 10 ⊗ DESIGN_COOLING_MAXIMUM_FLOW)
+    let flow-high = greater-hysteretic (input .«discharge_airflow») (decimal 1 10 ⊗ choices .«design_cooling_maximum_flow»)
     FLOW_HYSTERESIS (s .«flow_high») in
     let sensor-held = true-delay (s .«sensor_delay») t (flow-high && not (input .«supply_fan_status»)) (decimal 600 1) delay-on-init in
     let airflow-sensor = if sensor-held .output && occupied then pos 3 else pos 0 in
@@ -85,21 +87,21 @@ alarms-armed arming s t input delay-on-init =
     }
 
 -- as it was: the arming delay runs with the delay_on_init of the others
-abbrev pub old-alarms : AlarmsState → Float → AlarmInput → Bool → AlarmsStep
-old-alarms s t input delay-on-init = alarms-armed delay-on-init s t input delay-on-init
+abbrev pub old-alarms : AlarmsState → Float → AlarmInput → Choices → AlarmsStep
+old-alarms s t input choices = alarms-armed (choices .quiet) s t input choices
 
 -- The controller with a given alarms stage in place of its own. That stage is the last: what it gives is in the outputs and the state alone.
-abbrev pub controller-with : (AlarmsState → Float → AlarmInput → Bool → AlarmsStep)
-    → ControllerState → Float → ControllerInput → Bool → ControllerStep
-controller-with stage s t input delay-on-init =
-    let before = controller-output s t input delay-on-init in
+abbrev pub controller-with : (AlarmsState → Float → AlarmInput → Choices → AlarmsStep)
+    → ControllerState → Float → ControllerInput → Choices → ControllerStep
+controller-with stage s t input choices =
+    let before = controller-output s t input choices in
     let alarms = stage (s .alarms) t record {
       «discharge_airflow» = input .«discharge_airflow»;
       «active_airflow_setpoint» = before .output .«airflow_setpoint»;
       «supply_fan_status» = input .«supply_fan_status»;
       «operation_mode» = input .«operating_mode»;
       «damper_position» = before .output .«damper_command»;
-    } delay-on-init in
+    } choices in
     record {
       state = record {
         «time_suppression» = before .state .«time_suppression»;
@@ -127,9 +129,9 @@ controller-with stage s t input delay-on-init =
 -- the box, as in AirBox.antt, with that controller
 unfoldable pub old-accepted-tick : AirBox → Tick → AirBoxStep
 old-accepted-tick box k =
-    let step = controller-with old-alarms (box .state) (k .t) (k .input) (delay-on-init (box .start)) in
+    let step = controller-with old-alarms (box .state) (k .t) (k .input) (box .choices) in
     record {
-      state = record { state = step .state; «last_time» = At (k .t); start = box .start };
+      state = record { state = step .state; «last_time» = At (k .t); choices = box .choices };
       answer = Accepted (step .output);
     }
 
@@ -150,15 +152,15 @@ old-steps box (k ∷ ks) =
 
 -- `alarms` is the old text with false in the arming delay, and `controller-with` puts that stage where the controller has it.
 pub record OnePlace : Type 0 where
-  pub stage : (s : AlarmsState) (t : Float) (input : AlarmInput) (delay-on-init : Bool)
-      → alarms s t input delay-on-init ≡ alarms-armed false s t input delay-on-init
-  pub controller : (s : ControllerState) (t : Float) (input : ControllerInput) (delay-on-init : Bool)
-      → controller-output s t input delay-on-init ≡ controller-with alarms s t input delay-on-init
+  pub stage : (s : AlarmsState) (t : Float) (input : AlarmInput) (choices : Choices)
+      → alarms s t input choices ≡ alarms-armed false s t input choices
+  pub controller : (s : ControllerState) (t : Float) (input : ControllerInput) (choices : Choices)
+      → controller-output s t input choices ≡ controller-with alarms s t input choices
 
 -- ---- a plain start is untouched: every tick, whatever the box holds
 
 abbrev pub PlainUntouched : Type 0
-PlainUntouched = (box : AirBox) (k : Tick) → box .start ≡ Plain → tick box k ≡ old-tick box k
+PlainUntouched = (box : AirBox) (k : Tick) → box .choices .quiet ≡ false → tick box k ≡ old-tick box k
 
 -- ---- every night, from either start, tick by tick
 
@@ -202,7 +204,7 @@ pub record SameFields (new old : AirBox) : Type 0 where
   pub damper-closed : new .state .alarms .«damper_closed» ≡ old .state .alarms .«damper_closed»
   pub leak-delay : new .state .alarms .«leak_delay» ≡ old .state .alarms .«leak_delay»
   pub last-time : new .«last_time» ≡ old .«last_time»
-  pub start : new .start ≡ old .start
+  pub choices : new .choices ≡ old .choices
 
 pub record SameButLowAirflow (new old : NightStep) : Type 0 where
   pub ticked : new .ticked ≡ old .ticked
@@ -211,7 +213,7 @@ pub record SameButLowAirflow (new old : NightStep) : Type 0 where
 
 abbrev pub EveryNight : Type 0
 EveryNight =
-    (start : Start) (night : List Tick) → Related SameButLowAirflow (night-of start night) (old-steps (fresh-box start) night)
+    (choices : Choices) (night : List Tick) → Related SameButLowAirflow (night-of choices night) (old-steps (unticked choices) night)
 
 -- ---- from the fan's first stop on everything is the old: all ten outputs and every field
 
@@ -223,9 +225,9 @@ box-after ticked box (k ∷ ks) = box-after ticked (ticked box k .state) ks
 -- The night comes to an accepted tick k with the fan off, after the ticks `before`. From k on nothing differs.
 abbrev pub SameFromAStop : Type 0
 SameFromAStop =
-    (start : Start) (before : List Tick) (k : Tick) (rest : List Tick)
-    → let new = box-after tick (fresh-box start) before in
-    let old = box-after old-tick (fresh-box start) before in
+    (choices : Choices) (before : List Tick) (k : Tick) (rest : List Tick)
+    → let new = box-after tick (unticked choices) before in
+    let old = box-after old-tick (unticked choices) before in
     AllYes (new .«last_time») k → fan k ≡ false → steps new (k ∷ rest) ≡ old-steps old (k ∷ rest)
 
 -- ---- document 02's bench case
@@ -251,12 +253,12 @@ low-alarm s = low-of (s .given)
     low-of (inl output) = not (output .«low_airflow_alarm» ==ᶻ 0)
     low-of (inr number) = false
 
--- armed at 0 and the low alarm at 300; they were at 1800 and 2100
+-- of a quiet start with the usual design flows: armed at 0 and the low alarm at 300; they were at 1800 and 2100
 pub record BenchCase : Type 0 where
-  pub armed : first-time fan-armed (night-of Quiet (bench-night 36 0)) ≡ some 0
-  pub low : first-time low-alarm (night-of Quiet (bench-night 36 0)) ≡ some 300
-  pub armed-before : first-time fan-armed (old-steps (fresh-box Quiet) (bench-night 36 0)) ≡ some 1800
-  pub low-before : first-time low-alarm (old-steps (fresh-box Quiet) (bench-night 36 0)) ≡ some 2100
+  pub armed : first-time fan-armed (night-of (usual true) (bench-night 36 0)) ≡ some 0
+  pub low : first-time low-alarm (night-of (usual true) (bench-night 36 0)) ≡ some 300
+  pub armed-before : first-time fan-armed (old-steps (unticked (usual true)) (bench-night 36 0)) ≡ some 1800
+  pub low-before : first-time low-alarm (old-steps (unticked (usual true)) (bench-night 36 0)) ≡ some 2100
 
 -- ---- N4
 pub record QuietStart : Type 0 where

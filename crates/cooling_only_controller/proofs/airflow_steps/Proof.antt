@@ -1,6 +1,7 @@
 -- `cooling_only_controller::airflow_steps` meets its contract. Assumes nothing.
 use mathlib.Core.Path.{_≡_}
 use lib.Ieee.{Float}
+use Rattle.box_choices.specs.declared.Choices.{Choices}
 use mir.Syntax.{w64}
 use mir.Facts.{toZ-ofZ}
 use Rattle.cooling_only_controller_conditioning.specs.Conditioning.{control-loops, setpoints, active-airflow, zone-states}
@@ -24,7 +25,7 @@ use Rattle.cooling_only_controller.proofs.airflow_steps.Statement.{stat
 use Rattle.cooling_only_controller.proofs.airflow_steps.Tie as tie
 
 -- the steps, each equal to its definition on what the stages before it gave
-steps-from : (t : Float) (input : ControllerInput) (l : ControlLoopsState) (s : SetpointsState) (z : ZoneStatesState) (d : DamperState)
+steps-from : (t : Float) (input : ControllerInput) (choices : Choices) (l : ControlLoopsState) (s : SetpointsState) (z : ZoneStatesState) (d : DamperState)
     (loops : ControlLoopsStep)
     (wanted-setpoints : SetpointInput)
     (flows : SetpointsStep)
@@ -34,14 +35,14 @@ steps-from : (t : Float) (input : ControllerInput) (l : ControlLoopsState) (s : 
     (air : DamperStep)
     → loops ≡ control-loops l t (input .«cooling_setpoint») (input .«zone_temperature») (input .«heating_setpoint»)
     → wanted-setpoints ≡ setpoint-input input
-    → flows ≡ setpoints s wanted-setpoints
-    → active ≡ active-airflow (input .«operating_mode») (flows .output .«occupied_minimum_flow»)
+    → flows ≡ setpoints s wanted-setpoints choices
+    → active ≡ active-airflow (input .«operating_mode») (flows .output .«occupied_minimum_flow») choices
     → zone-step ≡ zone-states z (loops .output .heating) (loops .output .cooling)
     → wanted-flow ≡ damper-input input (loops .output) active (zone-step .output)
-    → air ≡ damper d t wanted-flow
-    → _≡_ {A = AirflowSteps} (record { loops = loops; setpoints = flows; zone = zone-step; damper = air }) (airflow-steps t input l s z d)
+    → air ≡ damper d t wanted-flow choices
+    → _≡_ {A = AirflowSteps} (record { loops = loops; setpoints = flows; zone = zone-step; damper = air }) (airflow-steps t input choices l s z d)
 unfolding airflow-steps
-steps-from t input l s z d loops wanted-setpoints flows active zone-step wanted-flow air e1 e2 e3 e4 e5 e6 e7 = rw (e7, e6, e5, e4, e3, e2, e1)
+steps-from t input choices l s z d loops wanted-setpoints flows active zone-step wanted-flow air e1 e2 e3 e4 e5 e6 e7 = rw (e7, e6, e5, e4, e3, e2, e1)
 
 returns : tie.Need-returns
 returns c =
@@ -59,7 +60,7 @@ returns c =
     let a = at-start .args in
     let mode = toZ-ofZ {w = w64} {z = a .input .«operating_mode»} (record { sfits = at-mode .struct-told .given .1 .1 .1 .1 .1 .0 .1 }) in
     let zone-is = toZ-ofZ {w = w64} {z = at-zone .output3 .result .output} (record { sfits = at-zone-state .struct-told2 .given .1 .0 .1 }) in
-    steps-from (a .t) (a .input) (a .control-loops) (a .setpoints) (a .zone-states) (a .dampers)
+    steps-from (a .t) (a .input) (a .choices) (a .control-loops) (a .setpoints) (a .zone-states) (a .dampers)
     (at-loops .output .result)
     (at-setpoint-input .setpoint-input .result)
     (at-flows .output2 .result)

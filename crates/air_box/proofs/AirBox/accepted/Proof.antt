@@ -8,8 +8,7 @@ returns : tie.Need-returns
 unfolding accepted-tick
 returns c =
     let stepped = c .before .before in
-    let start-read = stepped .before .before in
-    rw (stepped .output .ensures, start-read .delay-on-init .ensures)
+    rw (stepped .output .ensures)
 
 pub accepted-spec : {M : Type 1} → statement M
-accepted-spec = tie.close (tie.spec (λ c κs. search needs) (λ c κs. search needs) returns)
+accepted-spec = tie.close (tie.spec (λ c κs. search needs) returns)

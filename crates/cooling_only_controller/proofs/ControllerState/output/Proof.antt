@@ -1,7 +1,7 @@
 -- `cooling_only_controller::ControllerState::output` meets its contract. Assumes nothing.
 use mathlib.Core.Path.{_≡_, _∙_}
-use mathlib.Core.Bool.{Bool}
 use lib.Ieee.{Float}
+use Rattle.box_choices.specs.declared.Choices.{Choices}
 use Rattle.cooling_only_controller_conditioning.specs.Conditioning.{time-suppression}
 use Rattle.cooling_only_controller_conditioning.specs.declared.TimeSuppressionStep.{TimeSuppressionStep}
 use Rattle.cooling_only_controller_airflow.specs.Airflow.{system-requests, alarms}
@@ -20,7 +20,7 @@ use Rattle.cooling_only_controller.proofs.ControllerState.output.Statem
 use Rattle.cooling_only_controller.proofs.ControllerState.output.Tie as tie
 
 -- the whole from its stages, each equal to its definition on what the stages before it gave
-whole-from : (s : ControllerState) (t : Float) (input : ControllerInput) (delay-on-init : Bool)
+whole-from : (s : ControllerState) (t : Float) (input : ControllerInput) (choices : Choices)
     (after : TimeSuppressionStep)
     (air : AirflowSteps)
     (wanted-requests : SystemRequestInput)
@@ -28,14 +28,14 @@ whole-from : (s : ControllerState) (t : Float) (input : ControllerInput) (delay-
     (wanted-alarms : AlarmInput)
     (alarms-now : AlarmsStep)
     → after ≡ time-suppression (s .«time_suppression») t (input .«cooling_setpoint») (input .«zone_temperature»)
-    → air ≡ airflow-steps t input (s .«control_loops») (s .setpoints) (s .«zone_states») (s .dampers)
+    → air ≡ airflow-steps t input choices (s .«control_loops») (s .setpoints) (s .«zone_states») (s .dampers)
     → wanted-requests ≡ request-input input (after .output) (air .loops .output) (air .damper .output)
-    → requests ≡ system-requests (s .«system_requests») t wanted-requests delay-on-init
+    → requests ≡ system-requests (s .«system_requests») t wanted-requests choices
     → wanted-alarms ≡ alarm-input input (air .damper .output)
-    → alarms-now ≡ alarms (s .alarms) t wanted-alarms delay-on-init
-    → controller-step after air requests alarms-now ≡ controller-output s t input delay-on-init
-whole-from s t input delay-on-init after air wanted-requests requests wanted-alarms alarms-now e1 e2 e3 e4 e5 e6 =
-    rw (e6, e5, e4, e3, e2, e1) (controller-by-pieces s t input delay-on-init)
+    → alarms-now ≡ alarms (s .alarms) t wanted-alarms choices
+    → controller-step after air requests alarms-now ≡ controller-output s t input choices
+whole-from s t input choices after air wanted-requests requests wanted-alarms alarms-now e1 e2 e3 e4 e5 e6 =
+    rw (e6, e5, e4, e3, e2, e1) (controller-by-pieces s t input choices)
 
 returns : tie.Need-returns
 returns c =
@@ -54,7 +54,7 @@ returns c =
     let at-start = at-after-suppression .before in
     let a = at-start .args in
     c .controller-step .ensures
-    ∙ whole-from (a .self) (a .t) (a .input) (a .delay-on-init)
+    ∙ whole-from (a .self) (a .t) (a .input) (a .choices)
     (at-after-suppression .output .result)
     (at-air .airflow-steps .result)
     (at-wanted .request-input .result)

@@ -21,7 +21,8 @@ returns c =
     let at-sensor-and-occupied = at-airflow-sensor .before in
     let at-sensor-held = at-sensor-and-occupied .before in
     let at-flow-high = at-sensor-held .before in
-    let at-occupied = at-flow-high .before in
+    let at-maximum = at-flow-high .before in
+    let at-occupied = at-maximum .before in
     let at-mode = at-occupied .before in
     let at-start = at-mode .before in
     rw (

@@ -5,7 +5,7 @@ use Rattle.air_box_c.proofs.records.LastTickC.question.Tie as tie
 
 returns : tie.Need-returns
 returns c =
-    let at-number = c in
+    let at-number = c .before in
     let at-verdict = at-number .before in
     let at-last-time = at-verdict .before in
     rw (at-number .verdict-number .ensures, at-verdict .questions .ensures, at-last-time .«open» .ensures)
