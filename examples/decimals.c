@@ -1,7 +1,8 @@
 /* Lines for the program `ticks` from decimals, and its answers back in decimals, for a person at a terminal.
    Each line of input has fourteen fields, joined by blanks, tabs or commas: start (plain, quiet, or next for the box of the line before), t, zone,
    cooling setpoint, heating setpoint, CO2 setpoint, CO2, discharge air, supply air, flow, mode, airflow override, damper override, and the status:
-   1 for windows closed, 2 for people in the zone and 4 for the fan on, summed. Empty lines and lines that begin with # are left out.
+   1 for windows closed, 2 for people in the zone and 4 for the fan on, summed. A line of three fields builds a box with design flows of its own:
+   plain or quiet, the design minimum, the cooling maximum. Empty lines and lines that begin with # are left out.
    Build: gcc -O2 examples/decimals.c -o target/decimals
    Run:   target/decimals < my_ticks.txt | target/bin/ticks | target/decimals --answers */
 #define _POSIX_C_SOURCE 200809L
@@ -12,8 +13,9 @@
 #include <sys/types.h>
 #include "output.h"
 
-enum { FIELDS = 14, FIRST_INTEGER = 10, STATUS = 13, REALS = 5 };
+enum { FIELDS = 14, BUILDING_FIELDS = 3, FIRST_INTEGER = 10, STATUS = 13, REALS = 5 };
 static const char between[] = " \t,\r";
+static const char *const BUILDING_NAMES[BUILDING_FIELDS] = {"start of a box to be built", "design minimum", "cooling maximum"};
 static const char *const NAMES[FIELDS] = {"start", "t", "zone", "cooling setpoint", "heating setpoint", "CO2 setpoint", "CO2", "discharge air",
                                           "supply air", "flow", "mode", "airflow override", "damper override", "status"};
 
@@ -45,23 +47,34 @@ static bool field(int i, const char *text, uint64_t *word) {
     return i == STATUS ? integer(text, 0, 7, word) : integer(text, INT64_MIN, INT64_MAX, word);
 }
 
-/* The words of a line of decimals; or what is wrong with it, on standard error. */
-static bool words(char *text, unsigned long number, uint64_t word[FIELDS]) {
+/* The fields of a line, as far as a tick's go and one more, and how many they are. */
+static int split(char *text, char *fields[FIELDS + 1]) {
     char *rest = NULL;
-    char *next = strtok_r(text, between, &rest);
-    for (int i = 0; i < FIELDS; i++, next = strtok_r(NULL, between, &rest)) {
-        if (next == NULL) fprintf(stderr, "decimals: line %lu: the %s is missing\n", number, NAMES[i]);
-        else if (!field(i, next, &word[i])) fprintf(stderr, "decimals: line %lu: '%s' is no %s\n", number, next, NAMES[i]);
-        else continue;
-        return false;
-    }
-    if (next != NULL) fprintf(stderr, "decimals: line %lu: '%s' stands after the last field\n", number, next);
-    return next == NULL;
+    int count = 0;
+    for (char *next = strtok_r(text, between, &rest); next != NULL && count <= FIELDS; next = strtok_r(NULL, between, &rest)) fields[count++] = next;
+    return count;
 }
 
-static bool put_line(const uint64_t word[FIELDS]) {
-    for (int i = 0; i < FIELDS; i++)
-        if (!put(i + 1 < FIELDS ? "%016" PRIx64 " " : "%016" PRIx64 "\n", word[i])) return false;
+/* The words of a line of decimals, and how many they are: a tick's or a building's; or 0, and what is wrong with it on standard error. */
+static int words(char *text, unsigned long number, uint64_t word[FIELDS]) {
+    char *fields[FIELDS + 1];
+    int count = split(text, fields), wanted = count == BUILDING_FIELDS ? BUILDING_FIELDS : FIELDS;
+    const char *const *names = count == BUILDING_FIELDS ? BUILDING_NAMES : NAMES;
+    for (int i = 0; i < wanted; i++) {
+        if (i == count) fprintf(stderr, "decimals: line %lu: the %s is missing\n", number, names[i]);
+        else if (!field(i, fields[i], &word[i]) || (i == 0 && wanted != FIELDS && word[i] == 0))
+            fprintf(stderr, "decimals: line %lu: '%s' is no %s\n", number, fields[i], names[i]);
+        else continue;
+        return 0;
+    }
+    if (count <= wanted) return wanted;
+    fprintf(stderr, "decimals: line %lu: '%s' stands after the last field\n", number, fields[wanted]);
+    return 0;
+}
+
+static bool put_line(const uint64_t *word, int count) {
+    for (int i = 0; i < count; i++)
+        if (!put(i + 1 < count ? "%016" PRIx64 " " : "%016" PRIx64 "\n", word[i])) return false;
     return true;
 }
 
@@ -90,11 +103,12 @@ static bool put_answer(const char *text) {
 }
 
 /* A line of decimals, unless it is to be left out. The status of the program. */
-static int put_tick(char *line, unsigned long number) {
+static int put_words(char *line, unsigned long number) {
     uint64_t word[FIELDS];
     if (line[0] == '#' || line[strspn(line, between)] == '\0') return 0;
-    if (!words(line, number, word)) return 1;
-    return put_line(word) ? 0 : cannot("decimals", "write");
+    int count = words(line, number, word);
+    if (count == 0) return 1;
+    return put_line(word, count) ? 0 : cannot("decimals", "write");
 }
 
 /* Whether the line has no byte 0, which would hide what stands after it. */
@@ -118,7 +132,7 @@ int main(int count, char **arguments) {
         if (line[n - 1] == '\n') line[--n] = '\0';
         if (!is_text(line, (size_t)n, number)) status = 1;
         else if (answers) status = put_answer(line) ? 0 : cannot("decimals", "write");
-        else status = put_tick(line, number);
+        else status = put_words(line, number);
     }
     if (status == 0 && !feof(stdin)) status = cannot("decimals", "read");
     return close_output() || status != 0 ? status : cannot("decimals", "write");

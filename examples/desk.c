@@ -1,6 +1,6 @@
-/* What the dispatcher reads: runs the ticks on standard input, in the line format of the program `ticks`, and prints a line at
+/* What the dispatcher reads: runs the ticks and buildings on standard input, in the line format of the program `ticks`, and prints a line at
    the first accepted tick and whenever the desk code changes: the time of the tick, the code and its meaning.
-   A refused tick has a line with dashes for the time, the number of the refusal and its meaning; a line that is no tick has one too. */
+   A refused tick or building has a line with dashes for the time, the number of the refusal and its meaning; a line that is neither has one too. */
 #define _POSIX_C_SOURCE 200809L
 #include <inttypes.h>
 #include "tick_line.h"
@@ -24,7 +24,8 @@ static const char *reason(int number) {
     case AIR_BOX_TOO_LONG_AFTER_LAST: return "more than 240 seconds after the last one: start the box afresh";
     case AIR_BOX_TEMPERATURE_OUT_OF_RANGE: return "a temperature is out of range";
     case AIR_BOX_CO2_OUT_OF_RANGE: return "a CO2 value is out of range";
-    default: return "the airflow is out of range";
+    case AIR_BOX_AIRFLOW_OUT_OF_RANGE: return "the airflow is out of range";
+    default: return "the design flows are out of range: the box is not built";
     }
 }
 
@@ -34,26 +35,36 @@ static bool put_code(double t, int code) {
     return put("%02" PRId64 ":%02" PRId64 ":%02" PRId64 "  %2d  %s\n", seconds / 3600, seconds / 60 % 60, seconds % 60, code, meaning(code));
 }
 
+static bool put_refusal(uint8_t number) {
+    return put("--:--:--  refused %d: %s\n", number, reason(number));
+}
+
 /* Runs one tick, and writes its line if the reader has to know: of a refusal always, else where the code is not the one shown last. */
 static bool put_tick(AirBox *box, const AirBoxTick *tick, int *shown) {
     AirBoxOutput o = {0};
     uint8_t number = air_box_tick(box, tick, &o);
-    if (number != AIR_BOX_ACCEPTED) return put("--:--:--  refused %d: %s\n", number, reason(number));
+    if (number != AIR_BOX_ACCEPTED) return put_refusal(number);
     int code = air_box_desk_code(o.low_airflow_alarm, o.airflow_sensor_alarm, o.leaking_damper_alarm);
     if (code == *shown) return true;
     *shown = code;
     return put_code(tick->t, code);
 }
 
+/* Lets the box take a line that was read. A box that is built has no line of its own. */
+static bool take(AirBox *box, const Line *line, int *shown) {
+    if (line->kind == MALFORMED) return put("--:--:--      this line is no tick and builds no box\n");
+    if (line->kind == A_TICK) return put_tick(box, &line->tick, shown);
+    uint8_t number = air_box_build(box, line->choices);
+    return number == AIR_BOX_BUILT || put_refusal(number);
+}
+
 int main(void) {
     AirBox box = air_box_fresh(false);
-    AirBoxTick tick;
-    TickLine line;
+    Line line;
     int shown = -1;
-    while ((line = next_tick(&box, &tick)) != END_OF_INPUT) {
-        if (line == READ_FAILED) return cannot("desk", "read the ticks");
-        bool written = line == MALFORMED ? put("--:--:--      this line is no tick\n") : put_tick(&box, &tick, &shown);
-        if (!written) return cannot("desk", "write the night");
+    while (next_line(&box, &line) != END_OF_INPUT) {
+        if (line.kind == READ_FAILED) return cannot("desk", "read the ticks");
+        if (!take(&box, &line, &shown)) return cannot("desk", "write the night");
     }
     return close_output() ? 0 : cannot("desk", "write the night");
 }

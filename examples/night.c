@@ -1,4 +1,4 @@
-/* Runs the ticks on standard input, in the line format of the program `ticks`, and answers each line as that program does.
+/* Runs the ticks and buildings on standard input, in the line format of the program `ticks`, and answers each line as that program does.
    Build: rt staticlib air_box_c && gcc -O2 -Iinclude examples/night.c target/staticlib/libair_box_c.a -o target/night
    Run:   target/night < crates/ticks/stdin */
 #define _POSIX_C_SOURCE 200809L
@@ -19,15 +19,25 @@ static bool put_answer(uint8_t number, const AirBoxOutput *o) {
     return number == AIR_BOX_ACCEPTED ? put_output(o) : put("refused %d\n", number);
 }
 
+static bool put_built(uint8_t number) {
+    return number == AIR_BOX_BUILT ? put("built\n") : put("refused %d\n", number);
+}
+
+/* Lets the box take a line that was read, and answers it. */
+static bool take(AirBox *box, const Line *line) {
+    if (line->kind == MALFORMED) return put("malformed\n");
+    if (line->kind == A_BUILDING) return put_built(air_box_build(box, line->choices));
+    AirBoxOutput output = {0};
+    uint8_t number = air_box_tick(box, &line->tick, &output);
+    return put_answer(number, &output);
+}
+
 int main(void) {
     AirBox box = air_box_fresh(false);
-    AirBoxTick tick;
-    AirBoxOutput output = {0};
-    TickLine line;
-    while ((line = next_tick(&box, &tick)) != END_OF_INPUT) {
-        if (line == READ_FAILED) return cannot("night", "read the ticks");
-        bool written = line == MALFORMED ? put("malformed\n") : put_answer(air_box_tick(&box, &tick, &output), &output);
-        if (!written) return cannot("night", "write the answers");
+    Line line;
+    while (next_line(&box, &line) != END_OF_INPUT) {
+        if (line.kind == READ_FAILED) return cannot("night", "read the ticks");
+        if (!take(&box, &line)) return cannot("night", "write the answers");
     }
     return close_output() ? 0 : cannot("night", "write the answers");
 }

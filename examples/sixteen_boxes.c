@@ -53,15 +53,15 @@ static AirBoxTick readings(int i, int t, double damper) {
     return tick;
 }
 
-/* One tick of a box. A box that its clock has lost, to the past or by more than 240 seconds, is built afresh, and takes this tick as its first:
-   not at once, since one false time far ahead would then put it out of reach of the right ones. Whether it was. */
-static bool ticked_afresh(Unit *unit, const AirBoxTick *tick, bool quiet) {
+/* One tick of a box. A box that its clock has lost, to the past or by more than 240 seconds, is built afresh with the choices that it has, and takes
+   this tick as its first: not at once, since one false time far ahead would then put it out of reach of the right ones. Whether it was. */
+static bool ticked_afresh(Unit *unit, const AirBoxTick *tick) {
     unit->number = air_box_tick(&unit->box, tick, &unit->output);
     bool lost = unit->number == AIR_BOX_BEFORE_LAST || unit->number == AIR_BOX_TOO_LONG_AFTER_LAST;
     unit->lost = lost ? unit->lost + 1 : 0;
     if (unit->lost < 3) return false;
     unit->lost = 0;
-    unit->box = air_box_fresh(quiet);
+    air_box_build(&unit->box, unit->box.last.choices);
     unit->number = air_box_tick(&unit->box, tick, &unit->output);
     return true;
 }
@@ -82,10 +82,10 @@ static bool put_number(int t, int i, const Unit *unit) {
 }
 
 /* One tick of box i at second t, and the log of what changed. Whether all was written. */
-static bool run(Unit *unit, int i, int t, bool quiet) {
+static bool run(Unit *unit, int i, int t) {
     AirBoxTick tick = readings(i, t, unit->output.damper_command);
     uint8_t last = unit->number;
-    if (ticked_afresh(unit, &tick, quiet) && !put_line(t, i, "built afresh")) return false;
+    if (ticked_afresh(unit, &tick) && !put_line(t, i, "built afresh")) return false;
     if (unit->number != last && !put_number(t, i, unit)) return false;
     if (unit->number != AIR_BOX_ACCEPTED) return true;
     const AirBoxOutput *o = &unit->output;
@@ -110,6 +110,6 @@ int main(int count, char **arguments) {
     for (int i = 0; i < BOXES; i++) units[i].box = air_box_fresh(quiet);
     for (int t = 0; t <= HOUR; t += STEP)
         for (int i = 0; i < BOXES; i++)
-            if (!run(&units[i], i, t, quiet)) return cannot_write();
+            if (!run(&units[i], i, t)) return cannot_write();
     return fclose(stdout) == 0 ? 0 : cannot_write();
 }

@@ -13,7 +13,7 @@
            lost = 0;
        } else if (++lost == 3) {                             // box and clock have lost each other: the box is built afresh
            lost = 0;
-           box = air_box_fresh(true);
+           air_box_build(&box, box.last.choices);            // with the start and the size that it has; never refused
            number = air_box_tick(&box, &tick, &output);      // this tick is its first
        }
        if (number != AIR_BOX_ACCEPTED) report(number);       // `output` still holds what the last accepted tick gave
@@ -45,7 +45,20 @@
    show low airflow, with the quiet start from minute 5 on: in examples/sixteen_boxes.c, where all begin without flow, until minute 21. Low airflow right
    after power-up, or after a box was built afresh, is a fault only if it stays.
 
-   Size. Every box has a design minimum of 0.5 and a cooling maximum of 1.5 cubic metres a second. Neither can be set.
+   Size. A box from air_box_fresh has a design minimum of 0.5 and a cooling maximum of 1.5 cubic metres a second. A box of another size is built with
+   its own two flows:
+
+       AirBoxChoices choices = {true, 0.2, 0.6};             // a quiet start, the design minimum, the cooling maximum
+       AirBox box;                                           // what stands there is not read
+       uint8_t number = air_box_build(&box, choices);
+       if (number != AIR_BOX_BUILT) report(number);          // nothing was written: there is no box to tick
+
+   The maximum is from 0.1 to 10.0 and the minimum from 0.0 to the maximum. Both ends belong to a range; what lies outside is refused, and a NaN too. -0.0
+   is a minimum of 0 and is then used as it came. The start and the size stay with the box and never change; they stand in `last.choices`. So a box
+   that is built afresh takes them from there, as above, or from where the caller keeps them: air_box_fresh would make it one of 0.5 and 1.5.
+   The maximum and the minimum are the flows of overrides 2 and 3. The damper's loop takes setpoint and measured flow as shares of the maximum, and for the
+   alarms flow is high above a tenth of it. The dead bands, that of 0.01 below this tenth among them, are the same for every size: at a maximum of 0.1 flow
+   that was high stays high until about 0 is measured.
 
    What the archive needs and takes.
    - x86-64 with the System V ABI, as on Linux and the BSDs. No other processor, and not the ABI of Windows. SSE2 is enough.
@@ -53,11 +66,12 @@
      with -ffast-math may start in another.
    - No allocation, no global or static variable, no errno, no call out of the archive. Calls may run at the same time on different boxes; one box is
      ticked by one thread at a time, and a signal handler does not tick a box that it may have interrupted.
-   - No loop, no recursion and no indirect jump, so the time of a call is bounded. A tick was seen to take about 500 bytes of stack; no proof bounds them.
+   - No loop, no recursion and no indirect jump, so the time of a call is bounded. A tick was seen to take some 540 bytes of stack, a building
+     200; no proof bounds them.
 
    What a caller keeps to. A pointer points to a whole record of its type, and the box, the tick and the output do not lie over each other. A flag is 0 or 1,
-   and nothing else. A box is what air_box_fresh or a tick left, or a copy of it. The other numbers of a tick may be any, NaN and infinities among them:
-   none stops the box.
+   and nothing else. A box is what air_box_fresh, air_box_build or a tick left, or a copy of it. air_box_build takes any room for one. The
+   other numbers of a tick, and the two flows of a building, may be any, NaN and infinities among them: none stops the box.
 
    A box holds no pointer: it may be copied, by assignment or memcpy, and saved, to be loaded by a program with the same archive; the caller keeps a
    version beside it. A loaded box goes on where the same clock has moved on by at most 240 seconds; else a fresh one is needed. Its padding is not
@@ -94,10 +108,26 @@ extern "C" {
 #define AIR_BOX_NOT_WHOLE_SECONDS 1         /* refused unless t is finite and a whole number */
 #define AIR_BOX_TIME_OUT_OF_RANGE 2         /* refused unless t is from 0 to 2,147,483,648 */
 #define AIR_BOX_BEFORE_LAST 3               /* refused unless t is that of the last accepted tick or later; not asked where there is none */
-#define AIR_BOX_TOO_LONG_AFTER_LAST 4       /* refused unless t is at most 240 after it; not asked where there is none. Lasts until air_box_fresh */
+#define AIR_BOX_TOO_LONG_AFTER_LAST 4       /* refused unless t is at most 240 after it; not asked where there is none. Lasts until the box is built afresh */
 #define AIR_BOX_TEMPERATURE_OUT_OF_RANGE 5  /* refused unless each of the five temperatures is from 150.0 to 450.0 kelvin */
 #define AIR_BOX_CO2_OUT_OF_RANGE 6          /* refused unless both CO2 values are from 0.0 to 10000.0 parts per million */
 #define AIR_BOX_AIRFLOW_OUT_OF_RANGE 7      /* refused unless the airflow is from -10.0 to 10.0 cubic metres a second */
+
+/* ---- What is chosen when a box is built, and stays with it */
+
+/* The start and the size. Airflows in cubic metres a second. */
+typedef struct AirBoxChoices {
+    bool quiet;                         /* true: a quiet start; false: a plain one */
+    double design_minimum_flow;         /* from 0.0 to the maximum; 0.5 where air_box_fresh built the box */
+    double design_cooling_maximum_flow; /* from 0.1 to 10.0; 1.5 there */
+} AirBoxChoices;
+AIR_BOX_ASSERT(sizeof(AirBoxChoices) == 24);
+AIR_BOX_ASSERT(offsetof(AirBoxChoices, design_minimum_flow) == 8);
+AIR_BOX_ASSERT(offsetof(AirBoxChoices, design_cooling_maximum_flow) == 16);
+
+/* What building a box with choices returns; no tick returns 8. */
+#define AIR_BOX_BUILT 0
+#define AIR_BOX_DESIGN_FLOWS_OUT_OF_RANGE 8 /* refused unless the maximum is from 0.1 to 10.0 and the minimum from 0.0 to the maximum */
 
 /* ---- What a tick carries */
 
@@ -208,7 +238,7 @@ AIR_BOX_ASSERT(offsetof(AirBoxOutput, leaking_damper_alarm) == 72);
 #define AIR_BOX_DESK_AIRFLOW_SENSOR 23      /* airflow_sensor_alarm is 3 */
 #define AIR_BOX_DESK_NO_ALARM 0             /* else */
 
-/* ---- The inside of a box: what it remembers from tick to tick. Callers need none of it. */
+/* ---- The inside of a box: what it remembers from tick to tick. Callers need none of it but `last.choices`. */
 
 /* A time, or none: where `present` is false, `time` has no meaning. */
 typedef struct AirBoxOptionalTime {
@@ -426,13 +456,13 @@ AIR_BOX_ASSERT(offsetof(AirBoxAirflow, setpoints) == 144);
 AIR_BOX_ASSERT(offsetof(AirBoxAirflow, zone_states) == 145);
 AIR_BOX_ASSERT(offsetof(AirBoxAirflow, dampers) == 152);
 
-/* The time of the last accepted tick, and the start choice. */
+/* The time of the last accepted tick, and what was chosen when the box was built. */
 typedef struct AirBoxLast {
     AirBoxOptionalTime time;
-    bool quiet;
+    AirBoxChoices choices;
 } AirBoxLast;
-AIR_BOX_ASSERT(sizeof(AirBoxLast) == 24);
-AIR_BOX_ASSERT(offsetof(AirBoxLast, quiet) == 16);
+AIR_BOX_ASSERT(sizeof(AirBoxLast) == 40);
+AIR_BOX_ASSERT(offsetof(AirBoxLast, choices) == 16);
 
 /* A box. The stages stand in the order in which a tick goes through them. */
 typedef struct AirBox {
@@ -442,16 +472,20 @@ typedef struct AirBox {
     AirBoxAlarms alarms;
     AirBoxLast last;
 } AirBox;
-AIR_BOX_ASSERT(sizeof(AirBox) == 848);
+AIR_BOX_ASSERT(sizeof(AirBox) == 864);
 AIR_BOX_ASSERT(offsetof(AirBox, airflow) == 160);
 AIR_BOX_ASSERT(offsetof(AirBox, system_requests) == 352);
 AIR_BOX_ASSERT(offsetof(AirBox, alarms) == 600);
 AIR_BOX_ASSERT(offsetof(AirBox, last) == 824);
 
-/* ---- The three functions */
+/* ---- The four functions */
 
-/* A box that has had no tick, with a quiet start where `quiet` is true, else a plain one. The choice stays with the box. */
+/* A box that has had no tick, with a quiet start where `quiet` is true, else a plain one, a design minimum of 0.5 and a cooling maximum of 1.5. */
 AirBox air_box_fresh(bool quiet);
+
+/* AIR_BOX_BUILT: the box at `box` has had no tick, and has these choices. AIR_BOX_DESIGN_FLOWS_OUT_OF_RANGE: they are refused, and nothing was written.
+   What stood at `box` is not read. Where it was no box before and building is refused, it is none afterwards, and must not be ticked. */
+uint8_t air_box_build(AirBox *box, AirBoxChoices choices);
 
 /* One tick of the box at `box`. AIR_BOX_ACCEPTED: the box has moved on, and `output` holds the ten outputs.
    Any other number: the tick is refused for that reason, and neither the box nor the output was written. */

@@ -9,8 +9,9 @@ mod fields;
 mod stubs;
 mod tick;
 
-use answer::AirBox;
+use answer::{AirBox, Controller, Texts};
 use fields::{Pairs, Value};
+use tick::Line;
 
 // Written by the tool: `mod oracle`, and the modules `plain` and `changed`.
 include!(env!("PUBLISHED_MODULES"));
@@ -21,12 +22,18 @@ fn values(air_box: &AirBox) -> Vec<Value> {
     values
 }
 
+/// A box that has plain starts only.
+fn air_box(fresh: fn() -> Box<dyn Controller>) -> AirBox {
+    AirBox::new(Texts { usual: [fresh; 2], sized: [fresh; 2] })
+}
+
 /// Runs to the end or to the first output that differs, which ends the reading as an error.
 fn run(lines: u64) -> Result<String, String> {
-    let (mut a, mut b) = (AirBox::new([plain::fresh; 2]), AirBox::new([changed::fresh; 2]));
+    let (mut a, mut b) = (air_box(plain::fresh), air_box(changed::fresh));
     let pairs = Pairs::new(a.paths(), b.paths())?;
     let (mut number, mut in_state, mut in_output) = (0, None, None);
-    let read = drive::each_tick(lines, |tick| {
+    let read = drive::each_line(lines, |line| {
+        let Line::Tick(tick) = line else { return Some("only boxes of the usual size are run here".into()) };
         number += 1;
         a.start(tick.start);
         b.start(tick.start);

@@ -3,7 +3,7 @@
 use std::io;
 use std::process::ExitCode;
 
-use crate::tick::{self, Tick};
+use crate::tick::{self, Line};
 
 /// The body of a program whose one word is the number of lines: prints what it found, or what differs with status 1.
 pub fn program(run: fn(u64) -> Result<String, String>) -> ExitCode {
@@ -19,13 +19,13 @@ pub fn program(run: fn(u64) -> Result<String, String>) -> ExitCode {
     code
 }
 
-/// Hands each tick to `take`, malformed lines being passed over. Fails at the first difference that it gives back, and if there are not
-/// so many lines.
-pub fn each_tick(lines: u64, mut take: impl FnMut(&Tick) -> Option<String>) -> Result<(), String> {
+/// Hands each tick and building to `take`, malformed lines being passed over. Fails at the first difference that it gives back, and if there
+/// are not so many lines.
+pub fn each_line(lines: u64, mut take: impl FnMut(&Line) -> Option<String>) -> Result<(), String> {
     let mut number = 0;
     let read = tick::each_line(|line| {
         number += 1;
-        match Tick::read(line).and_then(|tick| take(&tick)) {
+        match Line::read(line).and_then(|read| take(&read)) {
             None => Ok(()),
             Some(text) => Err(io::Error::other(format!("line {number}: {text}\n  input     {}", String::from_utf8_lossy(line)))),
         }

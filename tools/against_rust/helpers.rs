@@ -1,5 +1,5 @@
 //! `helpers LINES`: lets three texts take so many lines of standard input: the published one, the one with document 01's helpers, and the one
-//! whose `max` and `min` give the other zero. Compares the ten outputs and every field of the state after each accepted tick.
+//! whose `max` and `min` give the other zero, each as it is and sized. Compares the ten outputs and every field of the state after each accepted tick.
 
 use std::process::ExitCode;
 
@@ -10,17 +10,22 @@ mod stubs;
 mod tick;
 mod zeros;
 
-use answer::{AirBox, Starts};
+use answer::{AirBox, Texts};
 use fields::{Pairs, Value};
-use tick::Tick;
+use tick::{Line, Tick, USUAL};
 
-// Written by the build: `mod oracle` and the modules around the three texts, plain and quiet.
+// Written by the build: `mod oracle` and the modules around the three texts, plain and quiet, as they are and sized.
 include!(env!("PUBLISHED_MODULES"));
 
-const TEXTS: [(&str, Starts); 3] = [
-    ("published", [plain::fresh, quiet::fresh]),
-    ("document 01's helpers", [document::fresh, document_quiet::fresh]),
-    ("the other zero", [other_zeros::fresh, other_zeros_quiet::fresh]),
+macro_rules! texts {
+    ($plain:ident, $quiet:ident, $sized:ident, $sized_quiet:ident) => {
+        Texts { usual: [$plain::fresh, $quiet::fresh], sized: [$sized::fresh, $sized_quiet::fresh] }
+    };
+}
+const TEXTS: [(&str, Texts); 3] = [
+    ("published", texts!(plain, quiet, sized, sized_quiet)),
+    ("document 01's helpers", texts!(document_plain, document_quiet, document_sized, document_sized_quiet)),
+    ("the other zero", texts!(other_zeros_plain, other_zeros_quiet, other_zeros_sized, other_zeros_sized_quiet)),
 ];
 
 /// A box of one text, with the fields of its state and its outputs after the last tick.
@@ -34,20 +39,34 @@ struct Sides {
     sides: [Side; 3],
     pairs: Pairs,
     accepted: [u64; 2],
+    /// Accepted ticks of boxes of other sizes.
+    sized: u64,
     /// Accepted ticks at -0.0 right after one at 0.0.
     minus_zero: u64,
 }
 
 impl Sides {
     fn new() -> Result<Sides, String> {
-        let sides = TEXTS.map(|(name, starts)| Side { name, air_box: AirBox::new(starts), values: Vec::new() });
+        let sides = TEXTS.map(|(name, texts)| Side { name, air_box: AirBox::new(texts), values: Vec::new() });
         let paths = || sides[0].air_box.paths().into_iter().chain((1..=10).map(|n| format!("output {n}"))).collect();
         let pairs = Pairs::new(paths(), paths())?;
-        Ok(Sides { sides, pairs, accepted: [0; 2], minus_zero: 0 })
+        Ok(Sides { sides, pairs, accepted: [0; 2], sized: 0, minus_zero: 0 })
     }
 
-    /// One tick through all; the first difference from the published text.
-    fn take(&mut self, tick: &Tick) -> Option<String> {
+    /// One line through all; the first difference from the published text.
+    fn take(&mut self, line: &Line) -> Option<String> {
+        match line {
+            Line::Tick(tick) => self.tick(tick),
+            Line::Building(building) => {
+                for side in &mut self.sides {
+                    side.air_box.build(building);
+                }
+                None
+            }
+        }
+    }
+
+    fn tick(&mut self, tick: &Tick) -> Option<String> {
         self.sides.iter_mut().for_each(|side| side.air_box.start(tick.start));
         let last = self.sides[0].air_box.last;
         for side in &mut self.sides {
@@ -56,7 +75,9 @@ impl Sides {
             side.air_box.values(&mut side.values);
             side.values.extend(answer.bits());
         }
-        self.accepted[usize::from(self.sides[0].air_box.quiet)] += 1;
+        let air_box = &self.sides[0].air_box;
+        self.accepted[usize::from(air_box.quiet)] += 1;
+        self.sized += u64::from(air_box.flows != USUAL);
         let bits = |t: f64| t.to_bits();
         self.minus_zero += u64::from(last.map(bits) == Some(bits(0.0)) && bits(tick.t) == bits(-0.0));
         let [published, others @ ..] = &self.sides;
@@ -68,12 +89,13 @@ impl Sides {
 
 fn run(lines: u64) -> Result<String, String> {
     let mut sides = Sides::new()?;
-    drive::each_tick(lines, |tick| sides.take(tick))?;
-    let [plain, quiet] = sides.accepted;
-    if plain == 0 || quiet == 0 || sides.minus_zero == 0 {
-        return Err(format!("accepted {plain} plain and {quiet} quiet, {} at -0.0 after 0.0: too few to compare", sides.minus_zero));
+    drive::each_line(lines, |line| sides.take(line))?;
+    let Sides { accepted: [plain, quiet], sized, minus_zero, .. } = sides;
+    let counts = format!("accepted {plain} plain, {quiet} quiet; {sized} of them of other sizes, {minus_zero} at t = -0.0 right after 0.0");
+    if [plain, quiet, sized, minus_zero].contains(&0) {
+        return Err(format!("{counts}: too few to compare"));
     }
-    println!("{lines} ticks, accepted {plain} plain, {quiet} quiet; {} of them at t = -0.0 right after 0.0", sides.minus_zero);
+    println!("{lines} lines, {counts}");
     Ok(format!("{} accepted ticks, ten outputs and every field of the state equal in three texts", plain + quiet))
 }
 

@@ -1,13 +1,15 @@
-//! `nights SEED TICKS`: prints that many lines of ticks, the same ones for the same seed.
+//! `nights [--usual-size] SEED LINES`: prints that many lines of ticks and of buildings, the same ones for the same seed. With the option no
+//! box is built with design flows of its own.
 
 use std::io::{self, BufWriter, StdoutLock, Write};
 
 mod dice;
 mod scenes;
+mod sizes;
 mod tick;
 
 use dice::Dice;
-use tick::{LAST_SECOND, Tick};
+use tick::{Building, Flows, LAST_SECOND, Tick, USUAL};
 
 /// How the seconds between two ticks are chosen.
 #[derive(Clone, Copy)]
@@ -35,27 +37,34 @@ struct Night {
     last: Option<f64>,
     /// Scenes that the box still has before it.
     life: u64,
+    /// The design flows of the box.
+    size: Flows,
+    /// Whether boxes of other sizes are built.
+    sizes: bool,
 }
 
 impl Night {
-    fn new(seed: u64, ticks: u64) -> Night {
+    fn new(seed: u64, lines: u64, sizes: bool) -> Night {
         let mut night = Night {
             dice: Dice::new(seed),
             out: BufWriter::with_capacity(1 << 20, io::stdout().lock()),
-            left: ticks,
+            left: lines,
             now: scenes::CALM,
             start: 0,
             first: 0.0,
             last: None,
             life: 0,
+            size: USUAL,
+            sizes: false,
         };
         night.restart();
         // Before any start word the box is a fresh plain one; some seeds begin so.
         night.start = night.dice.below(3);
+        night.sizes = sizes;
         night
     }
 
-    /// Let the next line begin a fresh box.
+    /// Let the next line begin a fresh box, or build one here.
     fn restart(&mut self) {
         self.start = 1 + self.dice.below(2);
         self.last = None;
@@ -70,6 +79,47 @@ impl Night {
             4 => 120.0 * self.dice.below(17_000_000) as f64,
             _ => self.dice.below(100_000) as f64,
         };
+        self.size = USUAL;
+        if self.sizes && self.dice.below(5) < 2 {
+            let flows = sizes::good(&mut self.dice);
+            self.build(Building { start: self.start, flows });
+        }
+    }
+
+    /// Write a building line and follow what it does to the box.
+    fn build(&mut self, building: Building) {
+        self.write(&building.line());
+        if building.refusal() == 0 {
+            self.size = building.flows;
+            self.begin();
+        }
+    }
+
+    /// The box is a fresh one, and time goes on from the last tick of the box before it.
+    fn begin(&mut self) {
+        self.first = self.last.unwrap_or(self.first);
+        self.last = None;
+        self.start = 0;
+    }
+
+    /// A building line between two ticks: most are refused, some malformed, and some build another box.
+    fn build_between(&mut self) {
+        let start = 1 + self.dice.below(2);
+        match self.dice.below(8) {
+            0 => {
+                let flows = sizes::good(&mut self.dice);
+                self.build(Building { start, flows });
+            }
+            1 => {
+                let flows = sizes::good(&mut self.dice);
+                let line = self.damaged_building(Building { start, flows });
+                self.write(&line);
+            }
+            _ => {
+                let flows = sizes::bad(&mut self.dice);
+                self.build(Building { start, flows });
+            }
+        }
     }
 
     fn write(&mut self, line: &[u8]) {
@@ -93,8 +143,8 @@ impl Night {
     fn emit(&mut self, tick: Tick) {
         self.write(&tick.line());
         if tick.start > 0 {
-            self.first = self.last.unwrap_or(self.first);
-            self.last = None;
+            self.size = USUAL;
+            self.begin();
         }
         self.start = 0;
         if tick.refusal(self.last) == 0 {
@@ -116,6 +166,9 @@ impl Night {
         if self.dice.one_in(400) {
             let line = self.damaged(tick);
             self.write(&line);
+        }
+        if self.sizes && self.dice.one_in(100) {
+            self.build_between();
         }
         tick.start = self.start;
         self.emit(tick);
@@ -172,6 +225,26 @@ impl Night {
             _ => {}
         }
         let mut line = tick.line();
+        self.damage(&mut line, kind, place);
+        line
+    }
+
+    /// A line that is no building, made from one.
+    fn damaged_building(&mut self, mut building: Building) -> Vec<u8> {
+        let place = self.dice.below(2) as usize * 17 + 16;
+        let kind = self.dice.below(12);
+        match kind {
+            0 => building.start = 0,
+            1 => building.start = 3 + (self.dice.word() >> (1 + self.dice.below(63))),
+            _ => {}
+        }
+        let mut line = building.line();
+        self.damage(&mut line, kind, place);
+        line
+    }
+
+    /// The blank after a field damaged, or the digit before it, or the end of the line; kinds 0 and 1 are left as they are.
+    fn damage(&mut self, line: &mut Vec<u8>, kind: u64, place: usize) {
         match kind {
             0 | 1 => {}
             2 => line[place] = b'\t',
@@ -185,7 +258,6 @@ impl Night {
             10 => line.clear(),
             _ => line.extend(vec![b'0'; 1 + self.dice.below(400) as usize]),
         }
-        line
     }
 
     fn pace(&mut self) -> Pace {
@@ -256,15 +328,17 @@ fn temperature(tick: &mut Tick, which: u64) -> &mut f64 {
 }
 
 fn main() -> io::Result<()> {
-    let numbers: Vec<u64> = std::env::args()
-        .skip(1)
-        .filter_map(|a| a.parse().ok())
-        .collect();
-    let [seed, ticks] = numbers[..] else {
-        eprintln!("usage: nights SEED TICKS");
+    let mut words: Vec<String> = std::env::args().skip(1).collect();
+    let usual_size = words.first().is_some_and(|word| word == "--usual-size");
+    if usual_size {
+        words.remove(0);
+    }
+    let numbers: Result<Vec<u64>, _> = words.iter().map(|word| word.parse()).collect();
+    let Ok([seed, lines]) = numbers.as_deref() else {
+        eprintln!("usage: nights [--usual-size] SEED LINES");
         std::process::exit(2);
     };
-    let mut night = Night::new(seed, ticks);
+    let mut night = Night::new(*seed, *lines, !usual_size);
     while night.left > 0 {
         scenes::play(&mut night);
     }

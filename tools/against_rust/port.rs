@@ -5,7 +5,7 @@ use std::mem::offset_of;
 
 use crate::answer::{Answer, input_of};
 use crate::fields::{Fields, Place, Value, fields_of};
-use crate::tick::Tick;
+use crate::tick::{Building, Tick};
 
 macro_rules! c_struct {
     ($record:ident { $($name:ident: $type:ty,)* }) => {
@@ -49,12 +49,28 @@ impl Fields for AirBoxOptionalTime {
 
 unsafe extern "C" {
     fn air_box_fresh(quiet: bool) -> AirBox;
+    fn air_box_build(record: *mut AirBox, choices: AirBoxChoices) -> u8;
     fn air_box_tick(record: *mut AirBox, tick: *const AirBoxTick, output: *mut Answer) -> u8;
 }
 
 impl AirBox {
     pub fn fresh(quiet: bool) -> AirBox {
         unsafe { air_box_fresh(quiet) }
+    }
+
+    /// 0, and the box is the one that was asked for; or the number of the refusal.
+    pub fn build(&mut self, building: &Building) -> u8 {
+        let choices = AirBoxChoices {
+            quiet: u8::from(building.start == 2),
+            design_minimum_flow: building.flows.minimum,
+            design_cooling_maximum_flow: building.flows.maximum,
+        };
+        unsafe { air_box_build(self, choices) }
+    }
+
+    /// Every byte of the record, padding among them.
+    pub fn bytes(&self) -> &[u8] {
+        unsafe { std::slice::from_raw_parts((&raw const *self).cast(), size_of::<AirBox>()) }
     }
 
     /// 0, or the number of the refusal; the output is written only by an accepted tick.

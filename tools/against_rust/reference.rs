@@ -1,4 +1,4 @@
-//! `reference`: answers lines of ticks on standard input with the published Rust.
+//! `reference`: answers lines of ticks and of buildings on standard input with the published Rust.
 
 use std::io::{self, BufWriter, Write};
 
@@ -7,15 +7,19 @@ mod fields;
 mod stubs;
 mod tick;
 
-use answer::{AirBox, Answer};
-use tick::Tick;
+use answer::{AirBox, Answer, Texts};
+use tick::Line;
 
-// Written by the build: `mod oracle`, `mod plain` and `mod quiet` around the published files.
+// Written by the build: `mod oracle`, and the modules around the published files, as they are and sized, plain and quiet.
 include!(env!("PUBLISHED_MODULES"));
+
+fn refused(number: usize, line: &mut Vec<u8>) {
+    line.extend_from_slice(format!("refused {number}").as_bytes());
+}
 
 fn print(answer: Result<Answer, usize>, line: &mut Vec<u8>) {
     match answer {
-        Err(number) => line.extend_from_slice(format!("refused {number}").as_bytes()),
+        Err(number) => refused(number, line),
         Ok(answer) => {
             for float in answer.floats {
                 tick::push_hex(line, float.to_bits());
@@ -29,12 +33,16 @@ fn print(answer: Result<Answer, usize>, line: &mut Vec<u8>) {
 
 fn main() -> io::Result<()> {
     let mut output = BufWriter::with_capacity(1 << 20, io::stdout().lock());
-    let mut air_box = AirBox::new([plain::fresh, quiet::fresh]);
+    let mut air_box = AirBox::new(Texts { usual: [plain::fresh, quiet::fresh], sized: [sized::fresh, sized_quiet::fresh] });
     let mut answer = Vec::new();
     tick::each_line(|line| {
-        match Tick::read(line) {
+        match Line::read(line) {
             None => answer.extend_from_slice(b"malformed"),
-            Some(tick) => {
+            Some(Line::Building(building)) => match air_box.build(&building) {
+                0 => answer.extend_from_slice(b"built"),
+                number => refused(number, &mut answer),
+            },
+            Some(Line::Tick(tick)) => {
                 air_box.start(tick.start);
                 print(air_box.tick(&tick), &mut answer);
             }

@@ -2,9 +2,10 @@
 
 use crate::Night;
 use crate::dice::Dice;
-use crate::tick::{LAST_SECOND, Tick};
+use crate::sizes;
+use crate::tick::{Flows, LAST_SECOND, Tick, USUAL};
 
-/// An ordinary occupied hour. The temperatures are exact in binary, so that differences are too.
+/// An ordinary occupied hour of a box of the usual size. The temperatures are exact in binary, so that differences are too.
 pub const CALM: Tick = Tick {
     start: 0,
     t: 0.0,
@@ -23,8 +24,11 @@ pub const CALM: Tick = Tick {
 };
 
 const FAN: u64 = 4;
-/// Above this a flow becomes high, and it stays high above HIGH - 0.01.
-const HIGH: f64 = 0.1 * 1.5;
+
+/// Such an hour of a box of this size.
+fn calm(size: Flows) -> Tick {
+    Tick { flow: sizes::scaled(size, CALM.flow), ..CALM }
+}
 
 pub fn play(night: &mut Night) {
     if night.life == 0 {
@@ -33,7 +37,7 @@ pub fn play(night: &mut Night) {
     night.life -= 1;
     // Half of the scenes begin from what the one before has left.
     if night.dice.one_in(2) {
-        night.now = CALM;
+        night.now = calm(night.size);
     }
     match night.dice.below(19) {
         0 | 1 => sensor(night),
@@ -55,9 +59,10 @@ pub fn play(night: &mut Night) {
 }
 
 /// One tick in four, a flow at or beside an edge of the flow's dead band.
-fn at_the_band(now: &mut Tick, dice: &mut Dice) {
+fn at_the_band(size: Flows, now: &mut Tick, dice: &mut Dice) {
     if dice.one_in(4) {
-        now.flow = dice.beside_one_of(&[HIGH, HIGH - 0.01, 0.145, 0.3]);
+        let high = sizes::high(size);
+        now.flow = dice.beside_one_of(&[high, high - 0.01, sizes::kept_high(size), sizes::scaled(size, 0.3)]);
     }
 }
 
@@ -65,12 +70,14 @@ fn at_the_band(now: &mut Tick, dice: &mut Dice) {
 fn sensor(night: &mut Night) {
     night.now.status &= !FAN;
     night.now.mode = 1;
-    night.now.flow = night.dice.pick(&[0.3, 0.16, HIGH.next_up(), 10.0]);
+    let size = night.size;
+    let [far, above] = [0.3, 0.16].map(|flow| sizes::scaled(size, flow));
+    night.now.flow = night.dice.pick(&[far, above, sizes::high(size).next_up(), 10.0]);
     let shaky = night.dice.one_in(2);
     let seconds = night.dice.between(700.0, 1500.0);
     night.run(seconds, |now, dice| {
         if shaky {
-            at_the_band(now, dice);
+            at_the_band(size, now, dice);
         }
         if shaky && dice.one_in(8) {
             now.mode = dice.pick(&[1, 1, 1, 2]);
@@ -84,12 +91,14 @@ fn leak(night: &mut Night) {
     night.now.status |= FAN;
     night.now.damper = 1;
     night.now.airflow = night.dice.pick(&[0, 3, 3, 1, 2]);
-    night.now.flow = night.dice.pick(&[0.3, 0.16, 1.5, HIGH.next_up()]);
+    let size = night.size;
+    let [far, above] = [0.3, 0.16].map(|flow| sizes::scaled(size, flow));
+    night.now.flow = night.dice.pick(&[far, above, size.maximum, sizes::high(size).next_up()]);
     let shaky = night.dice.one_in(2);
     let seconds = night.dice.between(700.0, 2500.0);
     night.run(seconds, |now, dice| {
         if shaky {
-            at_the_band(now, dice);
+            at_the_band(size, now, dice);
         }
         if shaky && dice.one_in(8) {
             now.damper = dice.pick(&[1, 1, 0, 2]);
@@ -104,7 +113,8 @@ fn starved(night: &mut Night) {
     night.now.mode = 1;
     night.now.airflow = night.dice.pick(&[2, 3]);
     night.now.damper = night.dice.pick(&[2, 2, 0]);
-    let setpoint = if night.now.airflow == 2 { 1.5 } else { 0.5 };
+    let setpoint = sizes::setpoint(night.size, night.now.airflow);
+    let sized = night.size != USUAL;
     let (half, seventy) = (0.5 * setpoint, 0.7 * setpoint);
     night.now.flow = night.dice.pick(&[0.0, 0.4, 0.6, 0.6, 0.69, 0.8]) * setpoint;
     let shaky = night.dice.one_in(2);
@@ -117,6 +127,10 @@ fn starved(night: &mut Night) {
         if shaky && dice.one_in(10) {
             now.damper = dice.pick(&[2, 2, 1, 0]);
             now.mode = dice.pick(&[1, 1, 1, 3]);
+        }
+        // The other setpoint may be one that counts only where it counted before.
+        if sized && dice.one_in(10) {
+            now.airflow = 5 - now.airflow;
         }
     });
 }
@@ -203,7 +217,7 @@ fn supply_side(night: &mut Night) {
     night.now = Tick {
         zone: 300.0,
         cooling: 294.0,
-        ..CALM
+        ..calm(night.size)
     };
     night.now.mode = night.dice.pick(&[1, 1, 2, 3]);
     night.run(1500.0, |now, dice| {
@@ -225,7 +239,7 @@ fn loop_dial(night: &mut Night) {
         cooling: 300.0,
         heating: 290.0,
         supply: 280.0,
-        ..CALM
+        ..calm(night.size)
     };
     night.now.mode = night.dice.pick(&[1, 2, 3]);
     step_to_grid(night, 0.0);
@@ -260,7 +274,7 @@ fn zero_gate(night: &mut Night) {
         night.now.cooling = night.now.zone - cooling;
         night.now.heating = night.now.zone + heating;
     };
-    night.now = CALM;
+    night.now = calm(night.size);
     night.now.supply = 280.0;
     night.now.mode = night.dice.pick(&[1, 2, 3]);
     set(night, -5.0, -5.0);
@@ -283,28 +297,31 @@ fn zero_gate(night: &mut Night) {
     night.step(1.0);
 }
 
-/// A damper set to a wanted command: the fan's rise at setpoint 0 leaves 0.01 and a third of the
-/// flow in the integrator, and with the flow at its setpoint the command then stands still there.
+/// A damper set to a wanted command: the fan's rise at setpoint 0 leaves 0.01 and half of the flow's
+/// share of the maximum in the integrator, and with the flow at its setpoint the command then stands
+/// still there. The largest boxes take no flow that high.
 fn damper_dial(night: &mut Night) {
-    night.now = CALM;
+    let size = night.size;
+    night.now = calm(night.size);
     night.now.airflow = 1;
     night.now.status &= !FAN;
     night.step(60.0);
     let command = night.dice.pick(&[0.0, 0.01, 0.01, 0.015, 0.94, 0.95, 1.0]);
-    night.now.flow = night.dice.beside(3.0 * (command - 0.01));
+    night.now.flow = night.dice.beside(2.0 * size.maximum * (command - 0.01)).min(10.0);
     if command == 0.01 {
-        // A third of this is the last bit of 0.01.
-        night.now.flow = 5.2e-18 * night.dice.pick(&[-2.0, -1.0, 0.0, 1.0, 2.0]);
+        // At the usual size a third of this is the last bit of 0.01.
+        night.now.flow = sizes::scaled(size, 5.2e-18) * night.dice.pick(&[-2.0, -1.0, 0.0, 1.0, 2.0]);
     }
     night.now.status |= FAN;
     night.step(1.0);
     night.now.airflow = night.dice.pick(&[1, 2, 3, 3]);
-    let setpoint = [0.0, 1.5, 0.5][night.now.airflow as usize - 1];
+    let setpoint = sizes::setpoint(size, night.now.airflow);
     night.now.flow = setpoint;
     let shaky = night.dice.one_in(2);
     night.run(900.0, |now, dice| {
         if shaky && dice.one_in(3) {
-            now.flow = dice.beside_one_of(&[setpoint, setpoint - 0.015, setpoint + 0.015]);
+            let step = sizes::scaled(size, 0.015);
+            now.flow = dice.beside_one_of(&[setpoint, setpoint - step, setpoint + step]);
         }
     });
 }
@@ -336,7 +353,7 @@ fn range_ends(night: &mut Night) {
             now.flow = dice.pick(&flows);
         }
     });
-    night.now = CALM;
+    night.now = calm(night.size);
 }
 
 /// Modes and overrides of any number.
@@ -347,7 +364,7 @@ fn numbers(night: &mut Night) {
         2 => now.damper = dice.number(),
         _ => now.status = dice.below(8),
     });
-    night.now = CALM;
+    night.now = calm(night.size);
 }
 
 /// Zeros of both signs at time zero, or the last seconds that are taken.
@@ -360,7 +377,7 @@ fn zero_and_end_of_time(night: &mut Night) {
     }
     for _ in 0..8 {
         night.now.status ^= night.dice.pick(&[0, 0, FAN]);
-        night.now.flow = night.dice.pick(&[0.0, -0.0, 0.5, 5e-324, -5e-324]);
+        night.now.flow = night.dice.pick(&[0.0, -0.0, sizes::scaled(night.size, CALM.flow), 5e-324, -5e-324]);
         night.step(0.0);
     }
     night.run(1500.0, |_, _| {});
@@ -369,7 +386,7 @@ fn zero_and_end_of_time(night: &mut Night) {
 /// Readings of any bits, most of which are refused.
 fn noise(night: &mut Night) {
     for _ in 0..12 {
-        night.now = CALM;
+        night.now = calm(night.size);
         for _ in 0..1 + night.dice.below(2) {
             let odd = if night.dice.one_in(2) {
                 night.dice.odd()
@@ -385,14 +402,15 @@ fn noise(night: &mut Night) {
         }
         night.step(60.0);
     }
-    night.now = CALM;
+    night.now = calm(night.size);
 }
 
 /// Everything drifts.
 fn wander(night: &mut Night) {
+    let [least, step, most] = [-0.1, 0.2, 1.8].map(|flow| sizes::scaled(night.size, flow).min(10.0));
     night.run(6000.0, |now, dice| {
         now.zone = (now.zone + dice.between(-0.5, 0.5)).clamp(285.0, 310.0);
-        now.flow = (now.flow + dice.between(-0.2, 0.2)).clamp(-0.1, 1.8);
+        now.flow = (now.flow + dice.between(-step, step)).clamp(least, most);
         now.co2 = (now.co2 + dice.between(-60.0, 60.0)).clamp(400.0, 1200.0);
         now.discharge = (now.discharge + dice.between(-0.5, 0.5)).clamp(285.0, 305.0);
         now.supply = (now.supply + dice.between(-0.5, 0.5)).clamp(285.0, 305.0);

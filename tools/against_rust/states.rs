@@ -1,5 +1,5 @@
 //! `states LINES`: lets the port's archive and the published Rust take so many lines of standard input, and compares every field of the two boxes
-//! after each. A refused tick is compared as well: both give its number, and no field moves.
+//! after each. A refused tick is compared as well: both give its number, and no field moves. A refused building moves no byte of the port's box.
 
 use std::process::ExitCode;
 
@@ -10,11 +10,11 @@ mod port;
 mod stubs;
 mod tick;
 
-use answer::{AirBox, Answer};
+use answer::{AirBox, Answer, Texts};
 use fields::{Fields, Pairs, Place, Value};
-use tick::Tick;
+use tick::{Building, Line, Tick, USUAL};
 
-// Written by the build: `mod oracle`, `mod plain` and `mod quiet` around the published files.
+// Written by the build: `mod oracle`, and the modules around the published files, as they are and sized, plain and quiet.
 include!(env!("PUBLISHED_MODULES"));
 
 /// The path of a field of the port's record as the Rust has it: the port groups four of the Rust's stages under one name.
@@ -31,11 +31,20 @@ struct Both {
     rust_values: Vec<Value>,
     /// Accepted ticks from a plain and from a quiet start.
     accepted: [u64; 2],
+    /// Those of them that boxes of other sizes took.
+    sized: u64,
+    /// Buildings that were refused.
+    refused: u64,
+}
+
+/// That both sides gave the same number.
+fn same_number(port: u8, rust: usize) -> Option<String> {
+    (usize::from(port) != rust).then(|| format!("the numbers differ\n  port      {port}\n  reference {rust}"))
 }
 
 impl Both {
     fn new() -> Result<Both, String> {
-        let rust = AirBox::new([plain::fresh, quiet::fresh]);
+        let rust = AirBox::new(Texts { usual: [plain::fresh, quiet::fresh], sized: [sized::fresh, sized_quiet::fresh] });
         let port_paths = fields::places::<port::AirBox>().iter().map(rust_path).collect();
         Ok(Both {
             port: port::AirBox::fresh(false),
@@ -44,6 +53,8 @@ impl Both {
             port_values: Vec::new(),
             rust_values: Vec::new(),
             accepted: [0; 2],
+            sized: 0,
+            refused: 0,
         })
     }
 
@@ -57,8 +68,25 @@ impl Both {
         Some(format!("{path} differs\n  port      {port}\n  reference {rust}"))
     }
 
-    /// One tick through both, and what differs before or after it.
-    fn take(&mut self, tick: &Tick) -> Option<String> {
+    /// One line through both, and what differs before or after it.
+    fn take(&mut self, line: &Line) -> Option<String> {
+        match line {
+            Line::Tick(tick) => self.tick(tick),
+            Line::Building(building) => self.build(building),
+        }
+    }
+
+    fn build(&mut self, building: &Building) -> Option<String> {
+        let before = self.port.bytes().to_vec();
+        let number = self.port.build(building);
+        if number != 0 && self.port.bytes() != before {
+            return Some("a refused building wrote the box".into());
+        }
+        self.refused += u64::from(number != 0);
+        same_number(number, self.rust.build(building)).or_else(|| self.difference())
+    }
+
+    fn tick(&mut self, tick: &Tick) -> Option<String> {
         if tick.start != 0 {
             self.rust.start(tick.start);
             self.port = port::AirBox::fresh(tick.start == 2);
@@ -70,13 +98,11 @@ impl Both {
             }
         }
         let mut output = Answer { floats: [0.0; 5], integers: [0; 5] };
-        let number = usize::from(self.port.tick(&port::port_tick(tick), &mut output));
+        let number = self.port.tick(&port::port_tick(tick), &mut output);
         let refusal = self.rust.tick(tick).err().unwrap_or(0);
-        if number != refusal {
-            return Some(format!("the numbers differ\n  port      {number}\n  reference {refusal}"));
-        }
         self.accepted[usize::from(self.rust.quiet)] += u64::from(number == 0);
-        self.difference()
+        self.sized += u64::from(number == 0 && self.rust.flows != USUAL);
+        same_number(number, refusal).or_else(|| self.difference())
     }
 
     /// Flips each bit of each field of the port's record in turn. The field, and it alone, has to be told by its path; but the bits of the
@@ -111,13 +137,14 @@ impl Both {
 
 fn run(lines: u64) -> Result<String, String> {
     let mut both = Both::new()?;
-    drive::each_tick(lines, |tick| both.take(tick))?;
-    let [plain, quiet] = both.accepted;
-    if plain == 0 || quiet == 0 {
-        return Err(format!("accepted {plain} plain and {quiet} quiet: too few to compare"));
+    drive::each_line(lines, |line| both.take(line))?;
+    let Both { accepted: [plain, quiet], sized, refused, .. } = both;
+    let counts = format!("accepted {plain} plain, {quiet} quiet, {sized} of them of other sizes; {refused} buildings refused, no byte written");
+    if [plain, quiet, sized, refused].contains(&0) {
+        return Err(format!("{counts}: too few to compare"));
     }
     both.flip_every_bit()?;
-    println!("accepted {plain} plain, {quiet} quiet; each bit of each field of the last box, flipped, is told by the field's path");
+    println!("{counts}\neach bit of each field of the last box, flipped, is told by the field's path");
     Ok(format!("{} accepted ticks, every field of the state equal ({} fields)", plain + quiet, both.pairs.len()))
 }
 

@@ -1,6 +1,7 @@
-//! `tally [--whole] TICKS ANSWERS [PORT]`: counts what the answers visit, for plain and for quiet
-//! boxes. With a third file it also says where that one first differs from the answers. With
-//! `--whole` it fails where something of the table was never visited.
+//! `tally [--whole] LINES ANSWERS [PORT]`: counts what the answers visit, for plain and for quiet
+//! boxes, and what boxes of other sizes than the usual one visit. With a third file it also says
+//! where that one first differs from the answers. With `--whole` it fails where something of the
+//! table was never visited.
 
 use std::fs::File;
 use std::io::{self, BufRead, BufReader};
@@ -8,7 +9,7 @@ use std::process::ExitCode;
 
 mod tick;
 
-use tick::Tick;
+use tick::{Building, Flows, Line, Tick, USUAL};
 
 /// A row group of the table; `open` groups have a last row for all other numbers.
 struct Group {
@@ -22,7 +23,9 @@ const fn group(name: &'static str, values: &'static [i64], open: bool) -> Group 
 }
 
 const REFUSED: usize = 8;
-const GROUPS: [Group; 13] = [
+/// The first of the groups for boxes of other sizes, which are counted in the groups above as well.
+const SIZED: usize = 13;
+const GROUPS: [Group; 18] = [
     group("temperature request", &[0, 1, 2, 3], false),
     group("pressure request", &[0, 1, 2, 3], false),
     group("low airflow", &[0, 2, 3], false),
@@ -31,19 +34,29 @@ const GROUPS: [Group; 13] = [
     group("mode", &[1, 2, 3, 4], true),
     group("airflow override", &[1, 2, 3], true),
     group("damper override", &[1, 2], true),
-    group("refused", &[1, 2, 3, 4, 5, 6, 7], false),
+    group("refused", &[1, 2, 3, 4, 5, 6, 7, 8], false),
     group("first tick at", &[0, 120], true),
     group("seconds since the last", &[0, 1, 60, 120, 240], true),
     group("leak 4 beside low", &[2, 3], false),
     group("status", &[0, 1, 2, 3, 4, 5, 6, 7], false),
+    group("other size: pressure", &[0, 1, 2, 3], false),
+    group("other size: low airflow", &[0, 2, 3], false),
+    group("other size: sensor", &[0, 3], false),
+    group("other size: leak", &[0, 4], false),
+    group("other size: override", &[1, 2, 3], true),
 ];
 
 /// Counts of each row, the last one of a group for other numbers; column 0 plain, 1 quiet.
 struct Table {
     rows: Vec<Vec<[u64; 2]>>,
     accepted: [u64; 2],
+    built: [u64; 2],
+    /// Accepted ticks of boxes of other sizes.
+    sized: [u64; 2],
     malformed: u64,
+    /// Of the box: its column, its design flows and its last accepted time.
     quiet: usize,
+    flows: Flows,
     last: Option<f64>,
 }
 
@@ -55,32 +68,59 @@ impl Table {
                 .map(|g| vec![[0; 2]; g.values.len() + 1])
                 .collect(),
             accepted: [0; 2],
+            built: [0; 2],
+            sized: [0; 2],
             malformed: 0,
             quiet: 0,
+            flows: USUAL,
             last: None,
         }
     }
 
     fn count(&mut self, group: usize, number: i64) {
+        self.count_in(self.quiet, group, number);
+    }
+
+    fn count_in(&mut self, column: usize, group: usize, number: i64) {
         let values = GROUPS[group].values;
         let row = values
             .iter()
             .position(|&v| v == number)
             .unwrap_or(values.len());
-        self.rows[group][row][self.quiet] += 1;
+        self.rows[group][row][column] += 1;
+    }
+
+    /// Count a fresh box from here on.
+    fn begin(&mut self, start: u64, flows: Flows) {
+        self.quiet = start as usize - 1;
+        self.flows = flows;
+        self.last = None;
     }
 
     fn take(&mut self, line: &[u8], answer: &[u8]) {
-        let Some(tick) = Tick::read(line) else {
-            self.malformed += 1;
-            return;
-        };
-        if tick.start > 0 {
-            self.quiet = tick.start as usize - 1;
-            self.last = None;
-        }
         let words: Vec<&str> = str::from_utf8(answer).unwrap_or("").split(' ').collect();
-        let number = |index: usize| words.get(index).and_then(|w| w.parse().ok()).unwrap_or(-1);
+        match Line::read(line) {
+            None => self.malformed += 1,
+            Some(Line::Building(building)) => self.take_building(&building, &words),
+            Some(Line::Tick(tick)) => self.take_tick(&tick, &words),
+        }
+    }
+
+    /// A refused building is counted in the column of the box that it asked for.
+    fn take_building(&mut self, building: &Building, words: &[&str]) {
+        if words[0] == "built" {
+            self.begin(building.start, building.flows);
+            self.built[self.quiet] += 1;
+        } else {
+            self.count_in(building.start as usize - 1, REFUSED, number(words, 1));
+        }
+    }
+
+    fn take_tick(&mut self, tick: &Tick, words: &[&str]) {
+        if tick.start > 0 {
+            self.begin(tick.start, USUAL);
+        }
+        let number = |index: usize| number(words, index);
         if words[0] == "refused" {
             self.count(REFUSED, number(1));
             return;
@@ -101,14 +141,22 @@ impl Table {
         }
         self.count(12, tick.status as i64);
         self.last = Some(tick.t);
+        if self.flows != USUAL {
+            self.sized[self.quiet] += 1;
+            for output in 0..4 {
+                self.count(SIZED + output, number(6 + output));
+            }
+            self.count(SIZED + 4, tick.airflow);
+        }
     }
 
     /// Print the table; true if every row that can be visited was, from both starts.
     fn print(&self) -> bool {
         let line = |name: &str, n: [u64; 2]| println!("{name:<30} {:>10} {:>10}", n[0], n[1]);
         println!("{:<30} {:>10} {:>10}", "", "plain", "quiet");
-        line("accepted", self.accepted);
-        let mut whole = self.malformed > 0;
+        let singles = [("accepted", self.accepted), ("accepted of other sizes", self.sized), ("built", self.built)];
+        singles.iter().for_each(|(name, row)| line(name, *row));
+        let mut whole = self.malformed > 0 && singles.iter().all(|(_, row)| !row.contains(&0));
         for (group, rows) in GROUPS.iter().zip(&self.rows) {
             for (index, &row) in rows.iter().enumerate() {
                 let other = index == group.values.len();
@@ -127,6 +175,11 @@ impl Table {
         println!("{:<30} {:>10}", "malformed", self.malformed);
         whole
     }
+}
+
+/// A number of an answer; -1 where none stands.
+fn number(words: &[&str], index: usize) -> i64 {
+    words.get(index).and_then(|word| word.parse().ok()).unwrap_or(-1)
 }
 
 /// The lines of a file, one after another, without their newlines.
@@ -191,7 +244,7 @@ fn main() -> io::Result<ExitCode> {
         paths.remove(0);
     }
     if !(2..=3).contains(&paths.len()) {
-        eprintln!("usage: tally [--whole] TICKS ANSWERS [PORT]");
+        eprintln!("usage: tally [--whole] LINES ANSWERS [PORT]");
         return Ok(ExitCode::from(2));
     }
     let mut table = Table::new();
@@ -206,7 +259,7 @@ fn main() -> io::Result<ExitCode> {
         return Ok(ExitCode::FAILURE);
     }
     if paths.len() == 3 {
-        println!("{lines} ticks, every bit equal");
+        println!("{lines} lines, every bit equal");
     }
     Ok(ExitCode::SUCCESS)
 }

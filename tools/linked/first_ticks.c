@@ -111,6 +111,15 @@ static AirBoxTick first_tick(unsigned long n) {
                                         (int64_t)(choices >> 16 & 7), (int64_t)(choices >> 24 & 7), choices & 4}};
 }
 
+/* The nth box: every other one has a quiet start, and of each start every other one a size of its own. Whether it was built. */
+static bool built(unsigned long n, AirBox *box) {
+    *box = air_box_fresh(n & 1);
+    if ((n & 2) == 0) return true;
+    double maximum = between(0.1, 10);
+    AirBoxChoices choices = {n & 1, between(0, maximum), maximum};
+    return air_box_build(box, choices) == AIR_BOX_BUILT;
+}
+
 static int failed(const char *what) {
     fprintf(stderr, "first ticks: %s\n", what);
     return 1;
@@ -123,12 +132,13 @@ static bool counts_what_is_there(uintptr_t initial_sample_time) {
     return start == -120 && counted.divisions == 1 && counted.multiplications == 1;
 }
 
-/* Steps through the first ticks of that many boxes, every other one with a quiet start, and writes what was counted. */
+/* Steps through the first ticks of that many boxes and writes what was counted. */
 static int first_ticks(unsigned long boxes) {
     Counts all = {0, 0, 0};
     unsigned long least = ~0ul, most = 0;
     for (unsigned long n = 0; n < boxes; n++) {
-        AirBox box = air_box_fresh(n & 1);
+        AirBox box;
+        if (!built(n, &box)) return failed("a box was not built");
         AirBoxOutput output;
         AirBoxTick tick = first_tick(n);
         step_through((uintptr_t)air_box_tick);

@@ -1,5 +1,5 @@
-/* Runs the ticks on standard input and looks at every byte around each refused one: box and output are the same before and after,
-   and the tick gives the same number where the box may only be read and the output not even that. All seven numbers must come up. */
+/* Runs the ticks and buildings on standard input and looks at every byte around each refused one: box and output are the same before and after,
+   and the same number is given where the box may only be read and the output not even that. All eight numbers must come up. */
 #define _DEFAULT_SOURCE
 #include <sys/mman.h>
 #include <unistd.h>
@@ -14,10 +14,15 @@ static void *new_page(int fill) {
     return at == MAP_FAILED ? NULL : memset(at, fill, page);
 }
 
-/* Whether the tick, which was refused with `number`, is refused so again, now with both pages protected: a write would end the program. */
-static bool refused_unwritten(const AirBoxTick *tick, uint8_t number) {
+/* The number that a tick or a building gives. */
+static uint8_t number_of(const Line *line) {
+    return line->kind == A_TICK ? air_box_tick(box, &line->tick, output) : air_box_build(box, line->choices);
+}
+
+/* Whether the line, which was refused with `number`, is refused so again, now with both pages protected: a write would end the program. */
+static bool refused_unwritten(const Line *line, uint8_t number) {
     if (mprotect(box, page, PROT_READ) != 0 || mprotect(output, page, PROT_NONE) != 0) return false;
-    uint8_t again = air_box_tick(box, tick, output);
+    uint8_t again = number_of(line);
     if (mprotect(box, page, PROT_READ | PROT_WRITE) != 0 || mprotect(output, page, PROT_READ | PROT_WRITE) != 0) return false;
     return again == number;
 }
@@ -27,34 +32,49 @@ static int failed(const char *what) {
     return 1;
 }
 
+/* Whether a building of a box of zeros gives the same number, and where that is a refusal leaves the zeros. */
+static bool same_over_zeros(AirBoxChoices choices, uint8_t number) {
+    static const unsigned char zeros[sizeof *box];
+    AirBox other;
+    memcpy(&other, zeros, sizeof other);
+    if (air_box_build(&other, choices) != number) return false;
+    return number == AIR_BOX_BUILT || memcmp(&other, zeros, sizeof other) == 0;
+}
+
+/* Runs a line and counts its number, unless a box was built; what is wrong with it, or NULL. */
+static const char *take(const Line *line, unsigned long seen[9]) {
+    unsigned char box_before[sizeof *box], output_before[sizeof *output];
+    memcpy(box_before, box, sizeof *box);
+    memcpy(output_before, output, sizeof *output);
+    uint8_t number = number_of(line);
+    bool building = line->kind == A_BUILDING;
+    if (building ? number != AIR_BOX_BUILT && number != AIR_BOX_DESIGN_FLOWS_OUT_OF_RANGE : number > 7) return "a number that is none";
+    if (building && !same_over_zeros(line->choices, number)) return "a building over zeros was answered otherwise, or its refusal wrote";
+    if ((building || number != 0) && memcmp(output_before, output, sizeof *output) != 0) return "a building or a refused tick wrote the output";
+    if (!building || number != 0) seen[number]++;
+    if (number == 0) return NULL;
+    if (memcmp(box_before, box, sizeof *box) != 0) return "a refused line wrote the box";
+    return refused_unwritten(line, number) ? NULL : "a refused line was answered otherwise the second time";
+}
+
 int main(void) {
     page = (size_t)sysconf(_SC_PAGESIZE);
     box = new_page(0x5a);
     output = new_page(0xa5);
     if (box == NULL || output == NULL) return failed("no memory");
     *box = air_box_fresh(false);
-    unsigned char box_before[sizeof *box], output_before[sizeof *output];
-    unsigned long seen[8] = {0};
-    AirBoxTick tick;
-    TickLine line;
-    while ((line = next_tick(box, &tick)) != END_OF_INPUT) {
-        if (line == READ_FAILED) return failed("cannot read the ticks");
-        if (line == MALFORMED) continue;
-        memcpy(box_before, box, sizeof *box);
-        memcpy(output_before, output, sizeof *output);
-        uint8_t number = air_box_tick(box, &tick, output);
-        if (number > 7) return failed("a number that is none");
-        seen[number]++;
-        if (number == AIR_BOX_ACCEPTED) continue;
-        if (memcmp(box_before, box, sizeof *box) != 0) return failed("a refused tick wrote the box");
-        if (memcmp(output_before, output, sizeof *output) != 0) return failed("a refused tick wrote the output");
-        if (!refused_unwritten(&tick, number)) return failed("a refused tick was answered otherwise the second time");
+    unsigned long seen[9] = {0};
+    Line line;
+    while (next_line(box, &line) != END_OF_INPUT) {
+        if (line.kind == READ_FAILED) return failed("cannot read the ticks");
+        const char *wrong = line.kind == MALFORMED ? NULL : take(&line, seen);
+        if (wrong != NULL) return failed(wrong);
     }
     unsigned long refused = 0;
-    for (int number = 1; number <= 7; number++) {
+    for (int number = 1; number <= 8; number++) {
         if (seen[number] == 0) return failed("a number did not come up");
         refused += seen[number];
     }
     if (seen[AIR_BOX_ACCEPTED] == 0) return failed("no tick was accepted");
-    return printf("refusals: %lu ticks refused, no byte written\n", refused) < 0 || fflush(stdout) != 0;
+    return printf("refusals: %lu ticks and buildings refused, no byte written\n", refused) < 0 || fflush(stdout) != 0;
 }

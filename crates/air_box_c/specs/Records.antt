@@ -267,6 +267,6 @@ abbrev pub built-record : Built → AirBoxC → AirBoxC
 built-record (Box box) c = shut-box box
 built-record Refused c = c
 
--- beside it the number
-abbrev pub build-over : AirBoxC → Choices → BuiltC
-build-over c choices = record { state = built-record (build choices) c; number = built-number (build choices) }
+-- the number of what building gives, and the record of a box with these choices, built or not
+abbrev pub built : Choices → BuiltC
+built choices = record { number = built-number (build choices); state = fresh-record choices }

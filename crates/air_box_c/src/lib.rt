@@ -11,6 +11,7 @@ use air_box::Tick;
 use box_choices::Choices;
 use cooling_only_controller::ControllerOutput;
 use records::AirBoxC;
+use records::BuiltC;
 
 // A box that has had no tick, with the usual design flows.
 #[no_mangle]
@@ -21,12 +22,15 @@ pub extern "C" fn air_box_fresh(quiet: bool) -> AirBoxC
 }
 
 // Puts a box that has had no tick, with these choices, in the place of the one at b: 0; or 8 where a design flow is out of its range, and the box at b is as it was.
+// The record at b is not read, and it is written only on 0.
 #[no_mangle]
 pub extern "C" fn air_box_build(b: &mut AirBoxC, choices: Choices) -> u8
     ensures { λ r. ⌜ Promises.BuiltAt (now (b .entry)) choices (now (b .exit)) r ⌝ }
 {
-    let built = b.build(choices);
-    *b = built.state;
+    let built = BuiltC::of(choices);
+    if built.number == 0 {
+        *b = built.state;
+    }
     built.number
 }
 

@@ -496,10 +496,10 @@ pub struct AirBoxC {
     pub last: LastTickC,
 }
 
-// What building leaves in place of a record, and the number that it gives.
+// The number that building gives, and the record of a box with these choices, which is stored only where the number is 0.
 pub struct BuiltC {
-    pub state: AirBoxC,
     pub number: u8,
+    pub state: AirBoxC,
 }
 
 impl AirBoxC {
@@ -521,19 +521,17 @@ impl AirBoxC {
             last: LastTickC { time, choices },
         }
     }
+}
 
-    // Building in place of this record, which stays where it is refused.
-    pub fn build(self, choices: Choices) -> BuiltC
-        ensures { λ r. ⌜ r ≡ Records.build-over self choices ⌝ }
+impl BuiltC {
+    pub fn of(choices: Choices) -> BuiltC
+        ensures { λ r. ⌜ r ≡ Records.built choices ⌝ }
     {
+        let state = AirBoxC::fresh(choices);
         if air_box::design_flows_within(choices) {
-            let state = AirBoxC::fresh(choices);
-            BuiltC { state, number: 0 }
+            BuiltC { number: 0, state }
         } else {
-            BuiltC {
-                state: self,
-                number: 8,
-            }
+            BuiltC { number: 8, state }
         }
     }
 }

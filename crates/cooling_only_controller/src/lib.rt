@@ -119,8 +119,7 @@ impl ControllerState {
         let flow = air.damper.output;
         let wanted = request_input(input, after_suppression.output, loop_output, flow);
         let requests = self.system_requests.output(t, wanted, choices);
-        let alarms = self.alarms
-            .output(t, alarm_input(input, flow), choices);
+        let alarms = self.alarms.output(t, alarm_input(input, flow), choices);
         controller_step(after_suppression, air, requests, alarms)
     }
 }

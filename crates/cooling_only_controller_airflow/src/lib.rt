@@ -231,12 +231,7 @@ impl SystemRequestsState {
         }
     }
 
-    pub fn output(
-        self,
-        t: f64,
-        input: SystemRequestInput,
-        choices: Choices,
-    ) -> SystemRequestsStep
+    pub fn output(self, t: f64, input: SystemRequestInput, choices: Choices) -> SystemRequestsStep
         ensures { λ r. ⌜ r ≡ Airflow.system-requests self t input choices ⌝ }
     {
         let temperature = self.temperature_request(t, input, choices);

@@ -188,8 +188,7 @@ module _ (P₀ P₁ P₂ P₃ L I O X₀ X₁ X₂ X₃ X₄ : PlainType) (F : F
           (init ! 24 refl (I .lawful 𝓤 H A W .typed i _ is-i .0)) $
           shuts ! tt (row I) q′ i (I .val i ∷ []) b₁ o₁ $
           -- the number and its test
-          owned ! (row L) (Is (row L)) (L .makes 𝓤 H A W) (F .last h) (L .val (F .last h) ∷ []) (FL .is-last h _ was) $
-          calls-by-value L I (two-shape of-u8 X₀ (ask .gives)) (ask .does) W (F .last h) i is-i fm known
+          calls-by-value (L ∷ I ∷ []) (two-shape of-u8 X₀ (ask .gives)) (λ d. ask .does (d .0) (d .1 .0)) W (F .last h, (i, tt)) (FL .is-last h _ was, (is-i, tt)) fm known
           (and-then ! (load ! (from ! (stop !)) (look ! 25 refl)) (and-then ! (load ! (from ! (stop !)) (look ! 23 refl)) (no-more !))) (λ a v asked is-a.
           land ! (from ! (stop !)) (init ! 37 refl (ask .laws .lawful 𝓤 H A W .typed a _ is-a .0)) $
           rewrite ! 37 (λ (u : Val). ‵ (fat fullShare (two-shape of-u8 X₀ (ask .gives) .τ) l-a 0 u)) (lone-is v (two-val of-u8 X₀ (ask .gives) a) (ask .laws .tells a (v ∷ []) is-a)) refl $ drop ! $

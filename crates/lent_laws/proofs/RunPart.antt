@@ -19,7 +19,6 @@ use types.Run.{Reads, Walks as Leads, Finds, look, init, stop, hop, fld, from, l
 use types.Part.{whole, sub, look-in, store-in}
 use sound.WpLaws.{FmC}
 use denote.Laws.{Is}
-use denote.Steps.{owned}
 use denote.Triple.Statement.{Triple}
 use Rattle.lent_laws.proofs.PlainTypes.{PlainType, row, Data, Two, two-shape, two-val}
 use Rattle.lent_laws.proofs.ByValue.{lone-is, calls-by-value, Stage, StageMeets}
@@ -52,8 +51,7 @@ module _ {M : Type 1} {𝓤 : URA M} {H : Heap 𝓤} {A : Atoms 𝓤} (W : Given
   run-part {lr = lr} j t c r at-j at-1 at-t at-c at-r x is-v is-x a is-a then =
       assigns ! (of-opd ! (load ! (at-local at-1 (hop ! (look ! 1 refl) (fld ! at-j (stop !)))) (read-as is-v (look-in ! 0 (sub ! j at-j (whole !))))))
       (at-local at-t (stop !)) (init ! 2 refl (P .lawful 𝓤 H A W .typed x _ is-x .0)) $
-      owned ! (row P) (Is (row P)) (P .makes 𝓤 H A W) x (P .val x ∷ []) is-x $
-      calls-by-value P X (two-shape P Y (s .gives)) (s .does) W x (g .second a) is-a fm known (and-then ! (load ! (at-local at-t (stop !)) (look ! 3 refl))
+      calls-by-value (P ∷ X ∷ []) (two-shape P Y (s .gives)) (λ d. s .does (d .0) (d .1 .0)) W (x, (g .second a, tt)) (is-x, (is-a, tt)) fm known (and-then ! (load ! (at-local at-t (stop !)) (look ! 3 refl))
       (and-then ! (load ! (at-local at-c (fld ! refl (stop !))) (look-in ! 4 (sub ! 1 refl (whole !)))) (no-more !))) (λ y v e is.
       land ! (at-local at-r (stop !)) (init ! 5 refl (s .laws .lawful 𝓤 H A W .typed y _ is .0)) $
       rewrite ! 5 (λ (u : Val). ‵ (fat fullShare (two-shape P Y (s .gives) .τ) lr 0 u)) (lone-is v (two-val P Y (s .gives) y) (s .laws .tells y (v ∷ []) is)) refl $

@@ -9,3 +9,4 @@ pub mod TwoNights
 pub mod Demand3
 pub mod LowAirflowAlarm
 pub mod QuietStart
+pub mod OtherSizes

@@ -28,8 +28,8 @@ use Rattle.air_box.specs.declared.Refusal.{Refusal}
 use Rattle.air_box.specs.declared.Verdict.{Verdict}
 use Rattle.air_box.specs.declared.Verdict.the-variants.{Accept, Refuse}
 use Rattle.air_box.proofs.Demands.{questions-accept, questions-refuse, by-verdict}
-use Rattle.nights.specs.Nights.{NightStep, steps, fan}
-use Rattle.nights.specs.QuietStart.{alarms-armed, old-alarms, controller-with, old-accepted-tick, old-decided, old-tick, old-steps, box-after, OnePlace, PlainUntouched, NineOutputs, NeverLater, SameFields, SameButLowAirflow, EveryNight, SameFromAStop, BenchCase, QuietStart}
+use Rattle.nights.specs.Nights.{NightStep, steps, box-after, fan}
+use Rattle.nights.specs.QuietStart.{alarms-armed, old-alarms, controller-with, old-accepted-tick, old-decided, old-tick, old-steps, OnePlace, PlainUntouched, NineOutputs, NeverLater, SameFields, SameButLowAirflow, EveryNight, SameFromAStop, BenchCase, QuietStart}
 use Rattle.nights.proofs.Histories.{newest-time}
 use Rattle.nights.proofs.AcceptedTicks.{AllAccepted}
 use Rattle.nights.proofs.Grown.{grown, grown-last, grown-choices, grown-accepts, grown-refuses}

@@ -1,3 +1,5 @@
 pub mod Nights
 pub mod Demand3
 pub mod QuietStart
+pub mod FixedSizes
+pub mod OtherSizes

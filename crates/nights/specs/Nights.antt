@@ -19,6 +19,7 @@ use Rattle.cooling_only_controller.specs.declared.ControllerOutput.{ControllerO
 use Rattle.air_box.specs.AirBox.{unticked, tick, given-for}
 use Rattle.air_box.specs.declared.Tick.{Tick}
 use Rattle.air_box.specs.declared.AirBox.{AirBox}
+use Rattle.air_box.specs.declared.AirBoxStep.{AirBoxStep}
 
 -- ---- a night, run
 
@@ -36,6 +37,11 @@ steps box (k ∷ ks) = record { ticked = k; given = given-for box k; box = tick 
 -- the night of a box that has had no tick before it, by what was chosen when it was built
 abbrev pub night-of : Choices → List Tick → List NightStep
 night-of choices ticks = steps (unticked choices) ticks
+
+-- the box after these ticks
+abbrev pub box-after : (AirBox → Tick → AirBoxStep) → AirBox → List Tick → AirBox
+box-after ticked box [] = box
+box-after ticked box (k ∷ ks) = box-after ticked (ticked box k .state) ks
 
 -- ---- the accepted ticks of a night: those for which the box gave outputs
 

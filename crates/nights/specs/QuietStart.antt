@@ -36,7 +36,7 @@ use Rattle.air_box.specs.declared.AirBoxStep.{AirBoxStep}
 use Rattle.air_box.specs.declared.Answer.the-variants.{Accepted, Refused}
 use Rattle.air_box.specs.declared.Verdict.{Verdict}
 use Rattle.air_box.specs.declared.Verdict.the-variants.{Accept, Refuse}
-use Rattle.nights.specs.Nights.{NightStep, steps, night-of, fan}
+use Rattle.nights.specs.Nights.{NightStep, steps, night-of, box-after, fan}
 
 -- ---- the box before N4
 
@@ -216,11 +216,6 @@ EveryNight =
     (choices : Choices) (night : List Tick) → Related SameButLowAirflow (night-of choices night) (old-steps (unticked choices) night)
 
 -- ---- from the fan's first stop on everything is the old: all ten outputs and every field
-
--- the box after these ticks
-abbrev pub box-after : (AirBox → Tick → AirBoxStep) → AirBox → List Tick → AirBox
-box-after ticked box [] = box
-box-after ticked box (k ∷ ks) = box-after ticked (ticked box k .state) ks
 
 -- The night comes to an accepted tick k with the fan off, after the ticks `before`. From k on nothing differs.
 abbrev pub SameFromAStop : Type 0

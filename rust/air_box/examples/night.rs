@@ -1,6 +1,6 @@
-//! Runs the ticks on standard input, in the line format of the program `ticks`, and answers each line as that program does.
+//! Runs the ticks and buildings on standard input, in the line format of the program `ticks`, and answers each line as that program does.
 
-use air_box::{AirBox, Input, Output, Refusal, Tick};
+use air_box::{AirBox, BuildRefusal, Choices, Input, Output, Refusal, Tick};
 use std::io::{self, BufRead, BufWriter, Write};
 
 /// A field: sixteen lowercase hex digits.
@@ -12,11 +12,23 @@ fn word(field: &[u8]) -> Option<u64> {
     u64::from_str_radix(std::str::from_utf8(field).ok()?, 16).ok()
 }
 
-/// The fourteen fields of a line that is well formed.
-fn words(line: &[u8]) -> Option<[u64; 14]> {
+/// A line that is well formed: the fourteen fields of a tick, or what a box is to be built with.
+enum Line {
+    Tick([u64; 14]),
+    Building(Choices),
+}
+
+fn read(line: &[u8]) -> Option<Line> {
     let fields: Option<Vec<u64>> = line.split(|&c| c == b' ').map(word).collect();
-    let words: [u64; 14] = fields?.try_into().ok()?;
-    (words[0] <= 2 && words[13] <= 7).then_some(words)
+    match fields?[..] {
+        [start @ 1..=2, minimum, maximum] => Some(Line::Building(Choices {
+            quiet: start == 2,
+            design_minimum_flow: f64::from_bits(minimum),
+            design_cooling_maximum_flow: f64::from_bits(maximum),
+        })),
+        ref words @ [0..=2, .., 0..=7] => words.try_into().ok().map(Line::Tick),
+        _ => None,
+    }
 }
 
 fn tick_of(words: &[u64; 14]) -> Tick {
@@ -40,6 +52,13 @@ fn tick_of(words: &[u64; 14]) -> Tick {
             damper_override_index: words[12] as i64,
             supply_fan_status: flag(4),
         },
+    }
+}
+
+fn print_built(out: &mut impl Write, answer: Result<(), BuildRefusal>) -> io::Result<()> {
+    match answer {
+        Err(reason) => writeln!(out, "refused {}", reason as u8),
+        Ok(()) => writeln!(out, "built"),
     }
 }
 
@@ -67,16 +86,21 @@ fn main() -> io::Result<()> {
     let mut out = BufWriter::new(io::stdout().lock());
     let mut air_box = AirBox::plain();
     for line in io::stdin().lock().split(b'\n') {
-        let Some(words) = words(&line?) else {
-            writeln!(out, "malformed")?;
-            continue;
-        };
-        match words[0] {
-            1 => air_box = AirBox::plain(),
-            2 => air_box = AirBox::quiet(),
-            _ => {}
+        match read(&line?) {
+            None => writeln!(out, "malformed")?,
+            Some(Line::Building(choices)) => {
+                let built = AirBox::build(choices);
+                print_built(&mut out, built.map(|built| air_box = built))?;
+            }
+            Some(Line::Tick(words)) => {
+                match words[0] {
+                    1 => air_box = AirBox::plain(),
+                    2 => air_box = AirBox::quiet(),
+                    _ => {}
+                }
+                print(&mut out, air_box.tick(&tick_of(&words)))?;
+            }
         }
-        print(&mut out, air_box.tick(&tick_of(&words)))?;
     }
     out.flush()
 }

@@ -20,7 +20,7 @@
 //!         if self.lost == 3 {
 //!             // Box and clock have lost each other: built afresh, the box takes this tick as its first.
 //!             self.lost = 0;
-//!             self.air_box = AirBox::quiet();
+//!             self.air_box = self.air_box.afresh();
 //!             answer = self.air_box.tick(tick);
 //!         }
 //!         self.output = Some(answer?);
@@ -81,10 +81,28 @@
 //! A fresh box does not know where its damper stood, and with the fan on it takes minutes to bring its flow up: a sound one that is occupied may show low
 //! airflow from minute 5 on. Right after power-up, or after a box was built afresh, low airflow is a fault only if it stays.
 //!
+//! # Size
+//!
+//! [`AirBox::quiet`] and [`AirBox::plain`] give a box with a design minimum of 0.5 and a cooling maximum of 1.5 cubic metres a second. A box of another size
+//! is built with its own two flows, which stay with it:
+//!
+//! ```
+//! use air_box::{AirBox, BuildRefusal, Choices};
+//!
+//! let choices = Choices { quiet: true, design_minimum_flow: 0.2, design_cooling_maximum_flow: 0.6 };
+//! let air_box = AirBox::build(choices)?;
+//! assert_eq!(air_box.afresh().choices(), choices);
+//! let too_large = Choices { design_cooling_maximum_flow: 12.0, ..choices };
+//! assert_eq!(AirBox::build(too_large).unwrap_err(), BuildRefusal::DesignFlowsOutOfRange);
+//! # Ok::<(), BuildRefusal>(())
+//! ```
+//!
+//! The maximum and the minimum are the flows of overrides 2 and 3. The damper's loop takes setpoint and measured flow as shares of the maximum, and for the
+//! alarms flow is high above a tenth of it.
+//!
 //! # What it needs
 //!
 //! x86-64 with the System V ABI; doubles rounded to nearest, exceptions masked, small numbers not flushed to zero. Nothing is allocated, and no `std` is used.
-//! Every box has a design minimum of 0.5 and a cooling maximum of 1.5 cubic metres a second.
 //! The records that cross the boundary lie as `include/air_box.h` has them, where more is said; `docs/RULES.md` has the rules in full.
 
 #![no_std]
@@ -92,6 +110,34 @@
 use core::error::Error;
 use core::fmt;
 use core::mem::{offset_of, size_of, MaybeUninit};
+
+/// What is chosen when a box is built, and stays with it. Airflows in cubic metres a second.
+#[repr(C)]
+#[derive(Clone, Copy, Debug, PartialEq)]
+pub struct Choices {
+    /// True: a quiet start. False: a plain one.
+    pub quiet: bool,
+    /// From 0.0 to the cooling maximum; 0.5 where none was chosen. -0.0 is a minimum of 0 and is used as it came.
+    pub design_minimum_flow: f64,
+    /// From 0.1 to 10.0; 1.5 where none was chosen.
+    pub design_cooling_maximum_flow: f64,
+}
+
+/// Why a box was not built, with its number. The ends of a range belong to it.
+#[derive(Clone, Copy, Debug, PartialEq, Eq, Hash)]
+#[repr(u8)]
+pub enum BuildRefusal {
+    /// The cooling maximum is not from 0.1 to 10.0, or the design minimum not from 0.0 to the maximum.
+    DesignFlowsOutOfRange = 8,
+}
+
+impl fmt::Display for BuildRefusal {
+    fn fmt(&self, f: &mut fmt::Formatter<'_>) -> fmt::Result {
+        f.write_str("the cooling maximum is not from 0.1 to 10 cubic metres a second, or the design minimum not from 0 to the maximum")
+    }
+}
+
+impl Error for BuildRefusal {}
 
 /// The readings and settings of a tick. What lies outside of a range is refused; flags, the mode and the override indices are never refused.
 #[repr(C)]
@@ -209,7 +255,7 @@ impl Error for Refusal {}
 struct Last {
     present: bool,
     time: f64,
-    quiet: bool,
+    choices: Choices,
 }
 
 /// The record that stands for a box. Only the archive reads its state, whose padding may be unwritten.
@@ -221,28 +267,56 @@ struct Record {
 }
 
 const _: () =
-    assert!(size_of::<Record>() == 848 && size_of::<Tick>() == 112 && size_of::<Output>() == 80);
+    assert!(size_of::<Record>() == 864 && size_of::<Tick>() == 112 && size_of::<Output>() == 80);
 const _: () = assert!(
-    offset_of!(Record, last) == 824 && offset_of!(Last, time) == 8 && offset_of!(Last, quiet) == 16
+    offset_of!(Record, last) == 824
+        && offset_of!(Last, time) == 8
+        && offset_of!(Last, choices) == 16
+);
+const _: () = assert!(
+    size_of::<Choices>() == 24
+        && offset_of!(Choices, design_minimum_flow) == 8
+        && offset_of!(Choices, design_cooling_maximum_flow) == 16
 );
 
 extern "C" {
     fn air_box_fresh(quiet: bool) -> Record;
+    fn air_box_build(record: *mut Record, choices: Choices) -> u8;
     fn air_box_tick(record: *mut Record, tick: *const Tick, output: *mut Output) -> u8;
     fn air_box_desk_code(low_airflow: i64, airflow_sensor: i64, leaking_damper: i64) -> u8;
 }
 
-/// A cooling-only air box. It may be cloned; the clone goes its own way.
+/// A cooling-only air box, of the choices with which it was built. It may be cloned; the clone goes its own way.
 #[derive(Clone)]
 pub struct AirBox(Record);
 
 impl AirBox {
-    /// A box that has had no tick, with a quiet start: the one that a real box takes.
+    /// A box that has had no tick, with these choices.
+    pub fn build(choices: Choices) -> Result<AirBox, BuildRefusal> {
+        let mut record = MaybeUninit::zeroed();
+        // Of zeros a box may be built. A refusal leaves them, and they are dropped.
+        match unsafe { air_box_build(record.as_mut_ptr(), choices) } {
+            0 => Ok(AirBox(unsafe { record.assume_init() })),
+            _ => Err(BuildRefusal::DesignFlowsOutOfRange),
+        }
+    }
+
+    /// A box that has had no tick, with the choices of this one.
+    pub fn afresh(&self) -> AirBox {
+        AirBox::build(self.choices()).expect("choices that built a box")
+    }
+
+    /// What the box was built with.
+    pub fn choices(&self) -> Choices {
+        self.0.last.choices
+    }
+
+    /// A box that has had no tick, with a quiet start: the one that a real box takes. Its design minimum is 0.5, its cooling maximum 1.5.
     pub fn quiet() -> AirBox {
         AirBox(unsafe { air_box_fresh(true) })
     }
 
-    /// A box that has had no tick, with a plain start.
+    /// A box that has had no tick, with a plain start and the same design flows.
     pub fn plain() -> AirBox {
         AirBox(unsafe { air_box_fresh(false) })
     }
@@ -270,7 +344,7 @@ impl fmt::Debug for AirBox {
         let last = self.0.last;
         f.debug_struct("AirBox")
             .field("last_time", &last.present.then_some(last.time))
-            .field("quiet", &last.quiet)
+            .field("choices", &last.choices)
             .finish_non_exhaustive()
     }
 }

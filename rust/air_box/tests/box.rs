@@ -1,6 +1,7 @@
-//! What a user of the wrapper relies on: refusals change nothing and say why, a box past its time is built afresh, the starts differ, the desk codes.
+//! What a user of the wrapper relies on: refusals change nothing and say why, a box past its time is built afresh, the starts differ, sizes and their
+//! ranges, the desk codes.
 
-use air_box::{desk_code, AirBox, Input, Refusal, Tick};
+use air_box::{desk_code, AirBox, BuildRefusal, Choices, Input, Refusal, Tick};
 
 fn at(t: f64) -> Tick {
     Tick {
@@ -22,6 +23,106 @@ fn at(t: f64) -> Tick {
             supply_fan_status: true,
         },
     }
+}
+
+fn sized(design_minimum_flow: f64, design_cooling_maximum_flow: f64) -> Choices {
+    Choices {
+        quiet: false,
+        design_minimum_flow,
+        design_cooling_maximum_flow,
+    }
+}
+
+/// The number that a positive one becomes by so many steps of its last bit.
+fn beside(x: f64, steps: i64) -> f64 {
+    f64::from_bits(x.to_bits().wrapping_add_signed(steps))
+}
+
+#[test]
+fn the_ends_of_the_design_flows_belong_to_them() {
+    let ends = [(0.0, 0.1), (0.1, 0.1), (0.0, 10.0), (10.0, 10.0)];
+    let within = [
+        (5e-324, beside(0.1, 1)),
+        (beside(10.0, -1), 10.0),
+        (beside(1.5, -1), 1.5),
+        (-0.0, beside(10.0, -1)),
+    ];
+    for (minimum, maximum) in ends.into_iter().chain(within) {
+        let choices = sized(minimum, maximum);
+        assert_eq!(AirBox::build(choices).expect("in range").choices(), choices);
+    }
+}
+
+#[test]
+fn design_flows_out_of_range_are_refused() {
+    let outside = [
+        (0.0, beside(0.1, -1)),
+        (0.5, beside(10.0, 1)),
+        (-5e-324, 1.5),
+        (beside(1.5, 1), 1.5),
+        (1.5, 0.5),
+        (0.0, 0.0),
+        (-1.0, -1.0),
+    ];
+    let odd = [f64::NAN, -f64::NAN, f64::INFINITY, f64::NEG_INFINITY];
+    let maxima = odd.map(|maximum| (0.5, maximum));
+    let minima = odd.map(|minimum| (minimum, 1.5));
+    for (minimum, maximum) in outside.into_iter().chain(maxima).chain(minima) {
+        let refusal = AirBox::build(sized(minimum, maximum)).expect_err("out of range");
+        assert_eq!(refusal, BuildRefusal::DesignFlowsOutOfRange);
+    }
+    assert_eq!(BuildRefusal::DesignFlowsOutOfRange as u8, 8);
+    let error: Box<dyn std::error::Error> = Box::new(BuildRefusal::DesignFlowsOutOfRange);
+    assert!(error.to_string().contains("not from 0.1 to 10"));
+}
+
+#[test]
+fn overrides_give_the_design_flows_as_they_came() {
+    let setpoint = |minimum: f64, maximum: f64, index: i64| {
+        let mut tick = at(0.0);
+        tick.input.airflow_override_index = index;
+        let mut air_box = AirBox::build(sized(minimum, maximum)).expect("in range");
+        air_box.tick(&tick).expect("accepted").airflow_setpoint
+    };
+    assert_eq!((setpoint(0.2, 0.6, 2), setpoint(0.2, 0.6, 3)), (0.6, 0.2));
+    assert_eq!(setpoint(-0.0, 1.5, 3).to_bits(), (-0.0f64).to_bits());
+}
+
+#[test]
+fn a_box_built_without_design_flows_has_the_usual_ones() {
+    let usual = sized(0.5, 1.5);
+    assert_eq!(AirBox::plain().choices(), usual);
+    let quiet = AirBox::quiet().choices();
+    assert_eq!(
+        quiet,
+        Choices {
+            quiet: true,
+            ..usual
+        }
+    );
+    let (mut built, mut fresh) = (AirBox::build(quiet).expect("usual"), AirBox::quiet());
+    for minute in 0..60 {
+        let mut tick = at(f64::from(minute) * 60.0);
+        tick.input.discharge_airflow = f64::from(minute % 7) * 0.3;
+        tick.input.airflow_override_index = i64::from(minute / 10);
+        assert_eq!(built.tick(&tick), fresh.tick(&tick));
+    }
+}
+
+#[test]
+fn the_size_stays_with_the_box() {
+    let choices = Choices {
+        quiet: true,
+        ..sized(0.2, 0.6)
+    };
+    let mut air_box = AirBox::build(choices).expect("in range");
+    air_box.tick(&at(0.0)).expect("accepted");
+    assert_eq!(air_box.choices(), choices);
+    assert_eq!(air_box.tick(&at(300.0)), Err(Refusal::TooLongAfterLast));
+    assert_eq!(air_box.choices(), choices);
+    air_box = air_box.afresh();
+    let output = air_box.tick(&at(300.0)).expect("accepted");
+    assert_eq!((output.airflow_setpoint, air_box.choices()), (0.6, choices));
 }
 
 #[test]
@@ -110,7 +211,7 @@ fn a_box_past_its_time_takes_ticks_again_once_built_afresh() {
     for t in [241.0, 300.0, 36_000.0] {
         assert_eq!(air_box.tick(&at(t)), Err(Refusal::TooLongAfterLast));
     }
-    air_box = AirBox::quiet();
+    air_box = air_box.afresh();
     air_box.tick(&at(36_060.0)).expect("accepted");
 }
 
@@ -126,15 +227,12 @@ fn a_refusal_is_an_error_that_says_why() {
 }
 
 #[test]
-fn debug_shows_the_last_time_and_the_start() {
+fn debug_shows_the_last_time_and_the_choices() {
+    const CHOICES: &str = "choices: Choices { quiet: true, design_minimum_flow: 0.5, design_cooling_maximum_flow: 1.5 }";
     let mut air_box = AirBox::quiet();
-    assert_eq!(
-        format!("{air_box:?}"),
-        "AirBox { last_time: None, quiet: true, .. }"
-    );
+    let fresh = format!("AirBox {{ last_time: None, {CHOICES}, .. }}");
+    assert_eq!(format!("{air_box:?}"), fresh);
     air_box.tick(&at(60.0)).expect("accepted");
-    assert_eq!(
-        format!("{air_box:?}"),
-        "AirBox { last_time: Some(60.0), quiet: true, .. }"
-    );
+    let ticked = format!("AirBox {{ last_time: Some(60.0), {CHOICES}, .. }}");
+    assert_eq!(format!("{air_box:?}"), ticked);
 }

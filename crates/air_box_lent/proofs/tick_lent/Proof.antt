@@ -5,7 +5,7 @@ use denote.Struct.Laws as Struct
 use denote.Triple.Spec.{tripleOf}
 use denote.Triple.Table.{entered, cited}
 use Rattle.lent_laws.proofs.PlainTypes.{PlainType, of-struct, of-enum, Two, two-of, two-laws, TwoLaws, two-shape}
-use Rattle.lent_laws.proofs.ByValue.{ByValue}
+use Rattle.lent_laws.proofs.ByValue.{ByValue₂}
 use Rattle.lent_laws.proofs.LentTick.{lent-tick-meets}
 use Rattle.air_box.specs.AirBox as AirBoxes
 use Rattle.air_box.specs.declared.AirBox.{AirBox}
@@ -62,4 +62,4 @@ tick-lent-spec 𝓤 H 𝓜 𝓖 𝓡 =
     entered 𝓤 H (tripleOf 𝓤 H (𝓖 .A) f.signature (f.spec 𝓤 H (𝓖 .A) (𝓜 .mem) (𝓡 .run)))
     (tables 𝓤 H 𝓜 𝓡 code.env .C) (tables 𝓤 H 𝓜 𝓡 code.env .Λ) #f code.function (code.unfolded 𝓤 H 𝓜 𝓡)
     (lent-tick-meets box ticked answered step step-laws Out Fin law #tick 𝓤 H (𝓖 .A) (givenOf 𝓤 H 𝓜 𝓖) (tablesOf 𝓤 H 𝓜 (tables 𝓤 H 𝓜 𝓡 code.env))
-    (cited 𝓤 H (ByValue (box .shape) (ticked .shape) (two-shape box answered step) Out 𝓤 H (𝓖 .A)) 𝓜 𝓡 code.env #tick tick-def.routine code.calls-air-box·AirBox·tick (tick-thm.met 𝓤 H 𝓜 𝓖 𝓡)))
+    (cited 𝓤 H (ByValue₂ box ticked (two-shape box answered step) Out 𝓤 H (𝓖 .A)) 𝓜 𝓡 code.env #tick tick-def.routine code.calls-air-box·AirBox·tick (tick-thm.met 𝓤 H 𝓜 𝓖 𝓡)))
