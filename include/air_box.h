@@ -74,8 +74,8 @@
    other numbers of a tick, and the two flows of a building, may be any, NaN and infinities among them: none stops the box.
 
    A box holds no pointer: it may be copied, by assignment or memcpy, and saved, to be loaded by a program with the same archive; the caller keeps a
-   version beside it. A loaded box goes on where the same clock has moved on by at most 240 seconds; else a fresh one is needed. Its padding is not
-   written, so two boxes that are the same may differ in raw bytes: to compare two, compare their fields. */
+   version beside it. A loaded box goes on where the same clock has moved on by at most 240 seconds; else a fresh one is needed. Its padding may
+   hold anything, so two boxes that are the same may differ in raw bytes: to compare two, compare their fields, and do not send raw bytes to others. */
 #ifndef AIR_BOX_H
 #define AIR_BOX_H
 

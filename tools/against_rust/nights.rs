@@ -1,9 +1,10 @@
 //! `nights [--usual-size] SEED LINES`: prints that many lines of ticks and of buildings, the same ones for the same seed. With the option no
-//! box is built with design flows of its own.
+//! box is built with design flows of its own. `nights --ends` prints the lines of `ends.rs`.
 
 use std::io::{self, BufWriter, StdoutLock, Write};
 
 mod dice;
+mod ends;
 mod scenes;
 mod sizes;
 mod tick;
@@ -327,15 +328,24 @@ fn temperature(tick: &mut Tick, which: u64) -> &mut f64 {
     }
 }
 
+fn print_all(lines: Vec<Vec<u8>>) -> io::Result<()> {
+    let mut text = lines.join(&b'\n');
+    text.push(b'\n');
+    io::stdout().write_all(&text)
+}
+
 fn main() -> io::Result<()> {
     let mut words: Vec<String> = std::env::args().skip(1).collect();
+    if words == ["--ends"] {
+        return print_all(ends::lines());
+    }
     let usual_size = words.first().is_some_and(|word| word == "--usual-size");
     if usual_size {
         words.remove(0);
     }
     let numbers: Result<Vec<u64>, _> = words.iter().map(|word| word.parse()).collect();
     let Ok([seed, lines]) = numbers.as_deref() else {
-        eprintln!("usage: nights [--usual-size] SEED LINES");
+        eprintln!("usage: nights [--usual-size] SEED LINES, or nights --ends");
         std::process::exit(2);
     };
     let mut night = Night::new(*seed, *lines, !usual_size);

@@ -3,11 +3,11 @@
 use crate::dice::Dice;
 use crate::tick::{Flows, USUAL};
 
-const fn flows(minimum: f64, maximum: f64) -> Flows {
+pub const fn flows(minimum: f64, maximum: f64) -> Flows {
     Flows { minimum, maximum }
 }
 
-const ENDS: [Flows; 5] = [flows(0.0, 0.1), flows(0.1, 0.1), flows(0.0, 10.0), flows(10.0, 10.0), flows(-0.0, 1.5)];
+pub const ENDS: [Flows; 5] = [flows(0.0, 0.1), flows(0.1, 0.1), flows(0.0, 10.0), flows(10.0, 10.0), flows(-0.0, 1.5)];
 const COMMON: [Flows; 5] = [USUAL, flows(0.1, 0.3), flows(0.2, 0.6), flows(0.3, 1.0), flows(0.8, 2.4)];
 
 /// A size that can be built.

@@ -1,5 +1,5 @@
 /* Runs the ticks and buildings on standard input and looks at every byte around each refused one: box and output are the same before and after,
-   and the same number is given where the box may only be read and the output not even that. All eight numbers must come up. */
+   and the same number is given where the box may only be read, in a building not even that, and the output neither. All eight numbers must come up. */
 #define _DEFAULT_SOURCE
 #include <sys/mman.h>
 #include <unistd.h>
@@ -19,9 +19,11 @@ static uint8_t number_of(const Line *line) {
     return line->kind == A_TICK ? air_box_tick(box, &line->tick, output) : air_box_build(box, line->choices);
 }
 
-/* Whether the line, which was refused with `number`, is refused so again, now with both pages protected: a write would end the program. */
+/* Whether the line, which was refused with `number`, is refused so again, now with both pages protected: a write would end the program, and of a building a
+   read of the box too. */
 static bool refused_unwritten(const Line *line, uint8_t number) {
-    if (mprotect(box, page, PROT_READ) != 0 || mprotect(output, page, PROT_NONE) != 0) return false;
+    int at_most = line->kind == A_TICK ? PROT_READ : PROT_NONE;
+    if (mprotect(box, page, at_most) != 0 || mprotect(output, page, PROT_NONE) != 0) return false;
     uint8_t again = number_of(line);
     if (mprotect(box, page, PROT_READ | PROT_WRITE) != 0 || mprotect(output, page, PROT_READ | PROT_WRITE) != 0) return false;
     return again == number;
@@ -32,13 +34,14 @@ static int failed(const char *what) {
     return 1;
 }
 
-/* Whether a building of a box of zeros gives the same number, and where that is a refusal leaves the zeros. */
-static bool same_over_zeros(AirBoxChoices choices, uint8_t number) {
-    static const unsigned char zeros[sizeof *box];
+/* Whether a building in room that holds no box gives the same number, and where that is a refusal leaves the room as it was. */
+static bool same_over_no_box(AirBoxChoices choices, uint8_t number) {
+    unsigned char room[sizeof *box];
+    memset(room, 0xa7, sizeof room);
     AirBox other;
-    memcpy(&other, zeros, sizeof other);
+    memcpy(&other, room, sizeof other);
     if (air_box_build(&other, choices) != number) return false;
-    return number == AIR_BOX_BUILT || memcmp(&other, zeros, sizeof other) == 0;
+    return number == AIR_BOX_BUILT || memcmp(&other, room, sizeof other) == 0;
 }
 
 /* Runs a line and counts its number, unless a box was built; what is wrong with it, or NULL. */
@@ -49,7 +52,7 @@ static const char *take(const Line *line, unsigned long seen[9]) {
     uint8_t number = number_of(line);
     bool building = line->kind == A_BUILDING;
     if (building ? number != AIR_BOX_BUILT && number != AIR_BOX_DESIGN_FLOWS_OUT_OF_RANGE : number > 7) return "a number that is none";
-    if (building && !same_over_zeros(line->choices, number)) return "a building over zeros was answered otherwise, or its refusal wrote";
+    if (building && !same_over_no_box(line->choices, number)) return "a building over no box was answered otherwise, or its refusal wrote";
     if ((building || number != 0) && memcmp(output_before, output, sizeof *output) != 0) return "a building or a refused tick wrote the output";
     if (!building || number != 0) seen[number]++;
     if (number == 0) return NULL;

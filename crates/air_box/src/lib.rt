@@ -168,7 +168,7 @@ fn unticked(choices: Choices) -> AirBox
 }
 
 // Whether a box of these design flows can be built: the cooling maximum from 0.1 to 10.0, and the minimum from 0.0 to that.
-pub fn design_flows_within(choices: Choices) -> bool
+fn design_flows_within(choices: Choices) -> bool
     ensures { λ r. ⌜ r ≡ AirBoxes.design-flows-within choices ⌝ }
 {
     let maximum = choices.design_cooling_maximum_flow;

@@ -2,6 +2,7 @@
 // `open` gives the state that a record stands for, and `shut` the record of a state.
 ghost use mathlib.Core.Path.{_≡_};
 ghost use Rattle.air_box_c.specs.Records as Records;
+use air_box::AirBox;
 use box_choices::Choices;
 use cdl_recurrences::OptionalTime;
 use cooling_only_controller::ControllerState;
@@ -527,11 +528,9 @@ impl BuiltC {
     pub fn of(choices: Choices) -> BuiltC
         ensures { λ r. ⌜ r ≡ Records.built choices ⌝ }
     {
+        let built = AirBox::build(choices);
+        let number = built.number();
         let state = AirBoxC::fresh(choices);
-        if air_box::design_flows_within(choices) {
-            BuiltC { number: 0, state }
-        } else {
-            BuiltC { number: 8, state }
-        }
+        BuiltC { number, state }
     }
 }

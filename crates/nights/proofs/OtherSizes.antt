@@ -10,10 +10,10 @@ use lib.Ieee.Fits.{and-i, and-l, and-r}
 use Rattle.f64_helpers.specs.F64.{_⊖_, _<ᶠ_, _≤ᶠ_, _≥ᶠ_, decimal, zero, if_then_else_}
 use Rattle.f64_helpers.proofs.Order.{lt→le, not-both, number-at-most}
 use Rattle.f64_helpers.proofs.Sums.{above-lowered}
-use Rattle.box_choices.specs.BoxChoices.{usual}
+use Rattle.box_choices.specs.BoxChoices.{chosen, usual}
 use Rattle.box_choices.specs.declared.Choices.{Choices}
 use Rattle.cooling_only_controller_conditioning.specs.Conditioning.{setpoints, active-airflow}
-use Rattle.cooling_only_controller_airflow.specs.Airflow.{damper, alarms}
+use Rattle.cooling_only_controller_airflow.specs.Airflow.{damper, system-requests, alarms}
 use Rattle.cooling_only_controller.specs.Controller.{controller-output}
 use Rattle.cooling_only_controller.specs.declared.ControllerInput.{ControllerInput}
 use Rattle.cooling_only_controller.specs.declared.ControllerOutput.{ControllerOutput}
@@ -27,8 +27,8 @@ use Rattle.air_box.specs.declared.Verdict.{Verdict}
 use Rattle.air_box.specs.declared.Verdict.the-variants.{Accept, Refuse}
 use Rattle.nights.specs.Nights.{steps, box-after}
 use Rattle.nights.specs.Demand3.{H}
-use Rattle.nights.specs.FixedSizes.{fixed-setpoints, fixed-active-airflow, fixed-damper, fixed-alarms, fixed-controller-output, FixedBox, FixedBoxStep, fixed-fresh-box, fixed-decided, fixed-tick, fixed-given}
-use Rattle.nights.specs.OtherSizes.{InRange, sized, Building, of-fixed, LowerLimit, OtherSizes}
+use Rattle.nights.specs.FixedSizes.{fixed-setpoints, fixed-active-airflow, fixed-damper, fixed-system-requests, fixed-alarms, fixed-controller-output, FixedBox, FixedBoxStep, fixed-fresh-box, fixed-decided, fixed-tick, fixed-given}
+use Rattle.nights.specs.OtherSizes.{InRange, Building, of-fixed, LowerLimit, OtherSizes}
 use Rattle.nights.proofs.FlowHighRule.{H-held}
 
 -- ---- building
@@ -39,7 +39,7 @@ four a b c d = (
   λ p. and-i (a && b) (c && d) (and-i a b (p .0) (p .1)) (and-i c d (p .2) (p .3)),
 )
 
-in-range : (quiet : Bool) (minimum maximum : Float) → T (design-flows-within (sized quiet minimum maximum)) ↔ InRange minimum maximum
+in-range : (quiet : Bool) (minimum maximum : Float) → T (design-flows-within (chosen quiet minimum maximum)) ↔ InRange minimum maximum
 in-range quiet minimum maximum =
     let tests = four (maximum ≥ᶠ decimal 1 10) (maximum ≤ᶠ decimal 10 1) (minimum ≥ᶠ zero) (minimum ≤ᶠ maximum) in (
       λ t. let p = tests .0 t in record { maximum-from = p .0; maximum-to = p .1; minimum-from = p .2; minimum-to = p .3 },
@@ -73,15 +73,15 @@ building : Building
 building =
     record {
       refused = λ quiet minimum maximum.
-          let choices = sized quiet minimum maximum in
+          let choices = chosen quiet minimum maximum in
           let test = refused-if (design-flows-within choices) choices in
           let range = in-range quiet minimum maximum in
           rw (build-by-ranges choices) (
             λ e r. T-not (design-flows-within choices) (test .0 e) (range .1 r),
             λ out. test .1 (not-T (design-flows-within choices) (λ t. out (range .0 t))),
           );
-      no-other-number = λ quiet minimum maximum number e. let choices = sized quiet minimum maximum in number-8 (design-flows-within choices) choices number (sym (build-by-ranges choices) ∙ e);
-      built = λ quiet minimum maximum r. let choices = sized quiet minimum maximum in build-by-ranges choices ∙ built-if (design-flows-within choices) choices (in-range quiet minimum maximum .1 r);
+      no-other-number = λ quiet minimum maximum number e. let choices = chosen quiet minimum maximum in number-8 (design-flows-within choices) choices number (sym (build-by-ranges choices) ∙ e);
+      built = λ quiet minimum maximum r. let choices = chosen quiet minimum maximum in build-by-ranges choices ∙ built-if (design-flows-within choices) choices (in-range quiet minimum maximum .1 r);
       nan-minimum = λ minimum maximum n r. number-at-most minimum maximum (inl n) (r .minimum-to);
       nan-maximum = λ minimum maximum n r. number-at-most maximum (decimal 10 1) (inl n) (r .maximum-to);
       lowest = ends zero (decimal 1 10) (unfold round le in tt);
@@ -92,7 +92,7 @@ building =
       without-naming = λ start. refl;
     }
   where
-    ends : (minimum maximum : Float) → T (design-flows-within (sized false minimum maximum)) → InRange minimum maximum
+    ends : (minimum maximum : Float) → T (design-flows-within (chosen false minimum maximum)) → InRange minimum maximum
     ends minimum maximum t = in-range false minimum maximum .0 t
 
 -- ---- a box keeps what it was built with
@@ -113,7 +113,7 @@ ticks-keep box (k ∷ ks) = ticks-keep (tick box k .state) ks ∙ tick-keeps box
 -- ---- a box with 0.5 and 1.5 is the old box
 
 controller-is : (s : ControllerState) (t : Float) (input : ControllerInput) (quiet : Bool) → controller-output s t input (usual quiet) ≡ fixed-controller-output s t input quiet
-unfolding controller-output fixed-controller-output setpoints fixed-setpoints active-airflow fixed-active-airflow damper fixed-damper alarms fixed-alarms
+unfolding controller-output fixed-controller-output setpoints fixed-setpoints active-airflow fixed-active-airflow damper fixed-damper system-requests fixed-system-requests alarms fixed-alarms
 controller-is s t input quiet = refl
 
 -- the old step as one of today

@@ -3,10 +3,12 @@ use mathlib.Core.Path.{_≡_, sym, _∙_, subst}
 use mathlib.Core.List.{List, [], _∷_}
 use mathlib.Core.Bool.{Bool, true, false, not, _&&_}
 use lib.Dec.{T, eqb→eq}
+use lib.Ieee.{Float}
 use Rattle.f64_helpers.specs.F64.{decimal}
 use Rattle.f64_helpers.specs.Seconds.{seconds, IsTime}
 use Rattle.f64_helpers.proofs.WholeSeconds.{eq-whole}
 use Rattle.cdl_recurrences.specs.DeadBand.{Related}
+use Rattle.box_choices.specs.BoxChoices.{chosen}
 use Rattle.box_choices.specs.declared.Choices.{Choices}
 use Rattle.air_box.specs.declared.Tick.{Tick}
 use Rattle.nights.specs.Nights.{Shown, night-of, shown, fan}
@@ -34,21 +36,28 @@ carried choices [] (k ∷ h) r t = absurd r
 carried choices (j ∷ g) [] r t = absurd r
 carried choices (j ∷ g) (k ∷ h) r t = fan-off-kept (high-after (H choices) (j ∷ g)) (high-after (H choices) (k ∷ h)) (fan j) (fan k) (high-kept (H choices) (H-held choices) NoWeaker (λ j k w. w .flows) (j ∷ g) (k ∷ h) r) (r .0 .fans) t
 
--- ---- along two nights
-three-kept : (choices : Choices) (g h : List Tick) (ss rs : List Shown) → AllAccepted g → AllAccepted h → Related NoWeaker g h → ShownAfter choices g ss → ShownAfter choices h rs
-    → Related (λ (a b : Shown). NoWeaker (a .ticked) (b .ticked)) ss rs → Related (λ (a b : Shown). ThreeIfThree (a .output) (b .output)) ss rs
-three-kept choices g h [] [] a b r p q w = tt
-three-kept choices g h [] (k ∷ rs) a b r p q w = absurd w
-three-kept choices g h (j ∷ ss) [] a b r p q w = absurd w
-three-kept choices g h (j ∷ ss) (k ∷ rs) a b r p q w = (
-  rw (p .1, q .1) (λ e.
-      let f = alarm-is-three choices g (j .ticked) .0 e in
-      alarm-is-three choices h (k .ticked) .1 (
-        sym (w .0 .modes) ∙ f .0,
-        held-kept (high-fan-off (H choices)) NoWeaker same-seconds (carried choices) (decimal 600 1) 600 delay-reached (choices .quiet) (j .ticked ∷ g) (k .ticked ∷ h) (p .0, a) (q .0, b) (w .0, r) (f .1),
-      )),
-  three-kept choices (j .ticked ∷ g) (k .ticked ∷ h) ss rs (p .0, a) (q .0, b) (w .0, r) (p .2) (q .2) (w .1),
-)
+-- ---- along two nights, of boxes with one start and one cooling maximum
+module _ (quiet : Bool) (minimum other-minimum maximum : Float) where
+  abbrev one : Choices
+  one = chosen quiet minimum maximum
 
-pub two-nights : (choices : Choices) → TwoNights choices
-two-nights choices first second = three-kept choices [] [] (shown (night-of choices first)) (shown (night-of choices second)) tt tt tt (shown-after choices [] first) (shown-after choices [] second)
+  abbrev other : Choices
+  other = chosen quiet other-minimum maximum
+
+  three-kept : (g h : List Tick) (ss rs : List Shown) → AllAccepted g → AllAccepted h → Related NoWeaker g h → ShownAfter one g ss → ShownAfter other h rs
+      → Related (λ (a b : Shown). NoWeaker (a .ticked) (b .ticked)) ss rs → Related (λ (a b : Shown). ThreeIfThree (a .output) (b .output)) ss rs
+  three-kept g h [] [] a b r p q w = tt
+  three-kept g h [] (k ∷ rs) a b r p q w = absurd w
+  three-kept g h (j ∷ ss) [] a b r p q w = absurd w
+  three-kept g h (j ∷ ss) (k ∷ rs) a b r p q w = (
+    rw (p .1, q .1) (λ e.
+        let f = alarm-is-three one g (j .ticked) .0 e in
+        alarm-is-three other h (k .ticked) .1 (
+          sym (w .0 .modes) ∙ f .0,
+          held-kept (high-fan-off (H one)) NoWeaker same-seconds (carried one) (decimal 600 1) 600 delay-reached quiet (j .ticked ∷ g) (k .ticked ∷ h) (p .0, a) (q .0, b) (w .0, r) (f .1),
+        )),
+    three-kept (j .ticked ∷ g) (k .ticked ∷ h) ss rs (p .0, a) (q .0, b) (w .0, r) (p .2) (q .2) (w .1),
+  )
+
+  pub two-nights : TwoNights one other
+  two-nights first second = three-kept [] [] (shown (night-of one first)) (shown (night-of other second)) tt tt tt (shown-after one [] first) (shown-after other [] second)

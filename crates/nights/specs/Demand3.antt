@@ -10,6 +10,7 @@ use lib.IntN.{ℤ, pos}
 use lib.Dec.{T}
 use lib.Ieee.{Float, eq}
 use Rattle.f64_helpers.specs.F64.{_⊗_, _≤ᶠ_, decimal}
+use Rattle.box_choices.specs.BoxChoices.{chosen}
 use Rattle.box_choices.specs.declared.Choices.{Choices}
 use Rattle.cdl_recurrences.specs.DeadBand.{Related}
 use Rattle.cooling_only_controller.specs.declared.ControllerOutput.{ControllerOutput}
@@ -77,22 +78,22 @@ pub record NoWeaker (j k : Tick) : Type 0 where
 abbrev pub ThreeIfThree : ControllerOutput → ControllerOutput → Type 0
 ThreeIfThree a b = a .«airflow_sensor_alarm» ≡ pos 3 → b .«airflow_sensor_alarm» ≡ pos 3
 
--- For every two nights of boxes with equal design flows, whose accepted ticks are equally many and so related, first with first:
+-- For every two nights of two boxes, whose accepted ticks are equally many and so related, first with first:
 -- the second shows alarm 3 wherever the first does. Refused ticks may differ in number and place.
-abbrev pub TwoNights : Choices → Type 0
-TwoNights choices =
+abbrev pub TwoNights : Choices → Choices → Type 0
+TwoNights one other =
     (first second : List Tick)
-    → Related (λ (a b : Shown). NoWeaker (a .ticked) (b .ticked)) (shown (night-of choices first)) (shown (night-of choices second))
-    → Related (λ (a b : Shown). ThreeIfThree (a .output) (b .output)) (shown (night-of choices first)) (shown (night-of choices second))
+    → Related (λ (a b : Shown). NoWeaker (a .ticked) (b .ticked)) (shown (night-of one first)) (shown (night-of other second))
+    → Related (λ (a b : Shown). ThreeIfThree (a .output) (b .output)) (shown (night-of one first)) (shown (night-of other second))
 
 -- ---- demand 3
 
 -- a plain start with these design flows
 abbrev pub plain : Float → Float → Choices
-plain minimum cooling-maximum =
-    record { quiet = false; «design_minimum_flow» = minimum; «design_cooling_maximum_flow» = cooling-maximum }
+plain minimum maximum = chosen false minimum maximum
 
 pub record Demand3 : Type 0 where
-  pub flow-high-rule : (minimum cooling-maximum : Float) → FlowHighRule (plain minimum cooling-maximum)
-  pub every-night-exactly : (minimum cooling-maximum : Float) → EveryNightExactly (plain minimum cooling-maximum)
-  pub two-nights : (minimum cooling-maximum : Float) → TwoNights (plain minimum cooling-maximum)
+  pub flow-high-rule : (minimum maximum : Float) → FlowHighRule (plain minimum maximum)
+  pub every-night-exactly : (minimum maximum : Float) → EveryNightExactly (plain minimum maximum)
+  -- of boxes with equal design flows: equal maxima are enough
+  pub two-nights : (minimum other-minimum maximum : Float) → TwoNights (plain minimum maximum) (plain other-minimum maximum)

@@ -1,5 +1,6 @@
 -- The box as it was before document 02's N13: its design flows are fixed at 0.5 and 1.5. These are the definitions of then, word for word
--- but for the names, and they stand for the claim of OtherSizes.antt alone. A stage that had no design flow in it is the one of today.
+-- but for the names, and they stand for the claim of OtherSizes.antt alone. What took neither a design flow nor the start is that of today:
+-- `time-suppression`, `control-loops`, `zone-states` and the blocks below the stages.
 use mathlib.Core.Bool.{Bool, false, not, _&&_, _||_}
 use mathlib.Core.List.{List, [], _∷_}
 use mathlib.Core.Logic.{_⊎_}
@@ -9,11 +10,10 @@ use lib.Signed.{leZ}
 use lib.Ieee.{Float}
 use Rattle.f64_helpers.specs.F64.{_⊕_, _⊖_, _⊗_, _⊘_, decimal, zero, if_then_else_}
 use Rattle.f64_helpers.specs.Integers.{_==ᶻ_}
-use Rattle.box_choices.specs.BoxChoices.{usual}
 use Rattle.cdl_recurrences.specs.CdlRecurrences.{buildings-line, clamp, greater-hysteretic, hysteresis, less-hysteretic}
 use Rattle.cdl_recurrences.specs.declared.OptionalTime.{OptionalTime}
 use Rattle.cdl_recurrences.specs.declared.OptionalTime.the-variants.{Absent, At}
-use Rattle.cooling_only_controller_timing.specs.Timing.{true-delay, step-seconds}
+use Rattle.cooling_only_controller_timing.specs.Timing.{sampler-sample, true-delay, step-seconds}
 use Rattle.cooling_only_controller_conditioning.specs.Conditioning.{TEMPERATURE_HYSTERESIS, AREA_BREATHING_FLOW, POPULATION_BREATHING_FLOW}
 use Rattle.cooling_only_controller_conditioning.specs.Conditioning.{COOLING_DISTRIBUTION_EFFECTIVENESS, HEATING_DISTRIBUTION_EFFECTIVENESS}
 use Rattle.cooling_only_controller_conditioning.specs.Conditioning.{time-suppression, control-loops, zone-states}
@@ -21,7 +21,7 @@ use Rattle.cooling_only_controller_conditioning.specs.declared.SetpointInput.{S
 use Rattle.cooling_only_controller_conditioning.specs.declared.SetpointsState.{SetpointsState}
 use Rattle.cooling_only_controller_conditioning.specs.declared.SetpointsStep.{SetpointsStep}
 use Rattle.cooling_only_controller_conditioning.specs.declared.ActiveAirflowOutput.{ActiveAirflowOutput}
-use Rattle.cooling_only_controller_airflow.specs.Airflow.{FLOW_HYSTERESIS, DAMPER_POSITION_HYSTERESIS, system-requests}
+use Rattle.cooling_only_controller_airflow.specs.Airflow.{FLOW_HYSTERESIS, DAMPER_POSITION_HYSTERESIS, SAMPLE_PERIOD, request-level}
 use Rattle.cooling_only_controller_airflow.specs.declared.DamperInput.{DamperInput}
 use Rattle.cooling_only_controller_airflow.specs.declared.DamperState.{DamperState}
 use Rattle.cooling_only_controller_airflow.specs.declared.DamperStep.{DamperStep}
@@ -52,7 +52,7 @@ DESIGN_MINIMUM_FLOW = decimal 5 10
 abbrev pub DESIGN_COOLING_MAXIMUM_FLOW : Float
 DESIGN_COOLING_MAXIMUM_FLOW = decimal 15 10
 
--- ---- the stages that had one of them
+-- ---- the stages that had one of them, or the start
 
 -- `setpoints`
 unfoldable pub fixed-setpoints : SetpointsState → SetpointInput → SetpointsStep
@@ -131,6 +131,50 @@ fixed-damper s t input =
       };
     }
 
+-- `system-requests`, which has no design flow, and took the start by itself
+unfoldable pub fixed-system-requests : SystemRequestsState → Float → SystemRequestInput → Bool → SystemRequestsStep
+fixed-system-requests s t input delay-on-init =
+    let temperature-difference = input .«zone_temperature» ⊖ input .«cooling_setpoint» in
+    let hot-three = hysteresis temperature-difference (decimal 275 100) (decimal 3 1) (s .«hot_three») in
+    let hot-two = hysteresis temperature-difference (decimal 175 100) (decimal 2 1) (s .«hot_two») in
+    let hot-three-held = true-delay (s .«hot_three_delay») t hot-three (decimal 120 1) delay-on-init in
+    let hot-two-held = true-delay (s .«hot_two_delay») t hot-two (decimal 120 1) delay-on-init in
+    let sampled-cooling = sampler-sample (s .«cooling_sampler») t (input .«cooling_loop») SAMPLE_PERIOD in
+    let cooling-high = hysteresis (sampled-cooling .output) (decimal 94 100) (decimal 95 100) (s .«cooling_high») in
+    let temperature = request-level (input .«after_suppression» && hot-three-held .output)
+    (input .«after_suppression» && hot-two-held .output) cooling-high in
+    let sampled-setpoint = sampler-sample (s .«setpoint_sampler») t (input .«airflow_setpoint») SAMPLE_PERIOD in
+    let sampled-discharge = sampler-sample (s .«discharge_sampler») t (input .«discharge_airflow») SAMPLE_PERIOD in
+    let sampled-damper = sampler-sample (s .«damper_sampler») t (input .«damper_position») SAMPLE_PERIOD in
+    let setpoint-on = hysteresis (sampled-setpoint .output) (decimal 5 1000) (decimal 1 100) (s .«setpoint_on») in
+    let damper-high = hysteresis (sampled-damper .output) (decimal 94 100) (decimal 95 100) (s .«damper_high») in
+    let damper-held = true-delay (s .«damper_delay») t damper-high (decimal 60 1) delay-on-init in
+    let starved-half = greater-hysteretic (decimal 5 10 ⊗ sampled-setpoint .output) (sampled-discharge .output)
+    FLOW_HYSTERESIS (s .«starved_half») in
+    let starved-seventy = greater-hysteretic (decimal 7 10 ⊗ sampled-setpoint .output) (sampled-discharge .output)
+    FLOW_HYSTERESIS (s .«starved_seventy») in
+    let gate = setpoint-on && damper-held .output in
+    let pressure = request-level (gate && starved-half) (gate && starved-seventy) damper-high in
+    record {
+      state = record {
+        «hot_three» = hot-three;
+        «hot_two» = hot-two;
+        «hot_three_delay» = hot-three-held .state;
+        «hot_two_delay» = hot-two-held .state;
+        «cooling_sampler» = sampled-cooling .state;
+        «setpoint_sampler» = sampled-setpoint .state;
+        «discharge_sampler» = sampled-discharge .state;
+        «damper_sampler» = sampled-damper .state;
+        «cooling_high» = cooling-high;
+        «setpoint_on» = setpoint-on;
+        «damper_high» = damper-high;
+        «damper_delay» = damper-held .state;
+        «starved_half» = starved-half;
+        «starved_seventy» = starved-seventy;
+      };
+      output = record { temperature = temperature; pressure = pressure };
+    }
+
 -- `alarms`
 unfoldable pub fixed-alarms : AlarmsState → Float → AlarmInput → Bool → AlarmsStep
 fixed-alarms s t input delay-on-init =
@@ -175,10 +219,6 @@ fixed-alarms s t input delay-on-init =
         «leaking_damper» = if leak-held .output then pos 4 else pos 0;
       };
     }
-
--- `system-requests` had no design flow, and took what is now `quiet` of the choices by itself.
-abbrev pub fixed-system-requests : SystemRequestsState → Float → SystemRequestInput → Bool → SystemRequestsStep
-fixed-system-requests s t input delay-on-init = system-requests s t input (usual delay-on-init)
 
 -- ---- the controller
 

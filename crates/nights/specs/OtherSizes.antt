@@ -1,5 +1,5 @@
 -- Document 02, N13: boxes of other sizes. What building refuses, that a box keeps what it was built with, and that a box with 0.5 and 1.5 is the old
--- box. Demand 2 for any design flows is Demand2.antt, and the statement about the sensor Demand3.antt: both speak of every box.
+-- box. Demand 2 for any design flows is Demand2.antt, which speaks of every box, and the statement about the sensor is Demand3.antt.
 -- The method `AirBox::build` is proved to return `build`, `AirBox::fresh` `fresh-box`, and `AirBox::tick` `tick`.
 use mathlib.Core.Path.{_≡_}
 use mathlib.Core.Logic.{_↔_, _⊎_, inl, inr}
@@ -9,7 +9,7 @@ use mathlib.Core.Bool.{Bool, not}
 use lib.Dec.{T}
 use lib.Ieee.{Float, isNan, neg}
 use Rattle.f64_helpers.specs.F64.{_⊖_, _<ᶠ_, _≤ᶠ_, _≥ᶠ_, decimal, zero}
-use Rattle.box_choices.specs.BoxChoices.{usual}
+use Rattle.box_choices.specs.BoxChoices.{chosen, usual}
 use Rattle.box_choices.specs.declared.Choices.{Choices}
 use Rattle.air_box.specs.AirBox.{delay-on-init, unticked, fresh-box, build, box-or-number, tick}
 use Rattle.air_box.specs.declared.Tick.{Tick}
@@ -28,12 +28,9 @@ pub record InRange (minimum maximum : Float) : Type 0 where
   pub minimum-from : T (minimum ≥ᶠ zero)
   pub minimum-to : T (minimum ≤ᶠ maximum)
 
-abbrev pub sized : Bool → Float → Float → Choices
-sized quiet minimum maximum = record { quiet = quiet; «design_minimum_flow» = minimum; «design_cooling_maximum_flow» = maximum }
-
 -- what building gives with these choices: the box, or a number
 abbrev pub gives : Bool → Float → Float → AirBox ⊎ ℕ
-gives quiet minimum maximum = box-or-number (build (sized quiet minimum maximum))
+gives quiet minimum maximum = box-or-number (build (chosen quiet minimum maximum))
 
 pub record Building : Type 0 where
   -- it refuses, with 8, exactly where a design flow is out of its range
@@ -42,7 +39,7 @@ pub record Building : Type 0 where
   pub no-other-number : (quiet : Bool) (minimum maximum : Float) (number : ℕ) → gives quiet minimum maximum ≡ inr number → number ≡ 8
   -- else it gives a box that has had no tick, and has the design flows as they came
   pub built : (quiet : Bool) (minimum maximum : Float) → InRange minimum maximum
-      → gives quiet minimum maximum ≡ inl (unticked (sized quiet minimum maximum))
+      → gives quiet minimum maximum ≡ inl (unticked (chosen quiet minimum maximum))
   -- a NaN is in no range
   pub nan-minimum : (minimum maximum : Float) → T (isNan minimum) → ¬ InRange minimum maximum
   pub nan-maximum : (minimum maximum : Float) → T (isNan maximum) → ¬ InRange minimum maximum
@@ -53,7 +50,7 @@ pub record Building : Type 0 where
   pub highest-equal : InRange (decimal 10 1) (decimal 10 1)
   pub minus-zero : InRange (neg zero) (decimal 15 10)
   -- a box that is built without naming design flows has 0.5 and 1.5
-  pub without-naming : (start : Start) → fresh-box start ≡ unticked (sized (delay-on-init start) (decimal 5 10) (decimal 15 10))
+  pub without-naming : (start : Start) → fresh-box start ≡ unticked (chosen (delay-on-init start) (decimal 5 10) (decimal 15 10))
 
 -- ---- a box keeps what it was built with
 
