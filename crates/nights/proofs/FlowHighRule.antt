@@ -74,7 +74,7 @@ module _ (limit : Float) (held : T (fits binary64 limit)) where
 
 -- ---- at H
 pub H-held : (choices : Choices) → T (fits binary64 (H choices))
-H-held choices = mul-fits binary64 (decimal 1 10) (choices .«design_cooling_maximum_flow»)
+H-held choices = mul-fits binary64 _ _
 
 pub flow-high-rule : (choices : Choices) → FlowHighRule choices
 flow-high-rule choices = rule-for (H choices) (H-held choices)
