@@ -84,16 +84,13 @@ building =
       built = λ quiet minimum maximum r. let choices = chosen quiet minimum maximum in build-by-ranges choices ∙ built-if (design-flows-within choices) choices (in-range quiet minimum maximum .1 r);
       nan-minimum = λ minimum maximum n r. number-at-most minimum maximum (inl n) (r .minimum-to);
       nan-maximum = λ minimum maximum n r. number-at-most maximum (decimal 10 1) (inl n) (r .maximum-to);
-      lowest = ends zero (decimal 1 10) (unfold round le in tt);
-      lowest-equal = ends (decimal 1 10) (decimal 1 10) (unfold round le in tt);
-      highest = ends zero (decimal 10 1) (unfold round le in tt);
-      highest-equal = ends (decimal 10 1) (decimal 10 1) (unfold round le in tt);
-      minus-zero = ends (neg zero) (decimal 15 10) (unfold round le neg in tt);
+      lowest = in-range false zero (decimal 1 10) .0 (unfold round le in tt);
+      lowest-equal = in-range false (decimal 1 10) (decimal 1 10) .0 (unfold round le in tt);
+      highest = in-range false zero (decimal 10 1) .0 (unfold round le in tt);
+      highest-equal = in-range false (decimal 10 1) (decimal 10 1) .0 (unfold round le in tt);
+      minus-zero = in-range false (neg zero) (decimal 15 10) .0 (unfold round le neg in tt);
       without-naming = λ start. refl;
     }
-  where
-    ends : (minimum maximum : Float) → T (design-flows-within (chosen false minimum maximum)) → InRange minimum maximum
-    ends minimum maximum t = in-range false minimum maximum .0 t
 
 -- ---- a box keeps what it was built with
 
