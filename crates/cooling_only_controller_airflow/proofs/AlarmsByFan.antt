@@ -21,6 +21,11 @@ pub level-or-none : (level : ℕ) (b : Bool) → ((if b then pos level else pos 
 level-or-none level true = inl refl
 level-or-none level false = inr refl
 
+-- false in both readings
+false-either-way : (b : Bool) → (if b then false else false) ≡ false
+false-either-way true = refl
+false-either-way false = refl
+
 two-three-or-none : (a b : Bool) → let low : ℤ = if a then pos 2 else if b then pos 3 else pos 0 in (low ≡ pos 2) ⊎ ((low ≡ pos 3) ⊎ (low ≡ pos 0))
 two-three-or-none true b = inl refl
 two-three-or-none false true = inr (inl refl)
@@ -42,7 +47,7 @@ module _ (s : AlarmsState) (t : Float) (input : AlarmInput) (choices : Choices) 
 
   pub sensor-levels : (given .«airflow_sensor» ≡ pos 3) ⊎ (given .«airflow_sensor» ≡ pos 0)
   unfolding alarms true-delay
-  sensor-levels = level-or-none 3 (next .«sensor_delay» .held && occupied)
+  sensor-levels = level-or-none 3 ((if choices .«second_reading» then next .«sensor_delay» .held && next .«flow_high» else next .«sensor_delay» .held) && occupied)
 
   pub leak-levels : (given .«leaking_damper» ≡ pos 4) ⊎ (given .«leaking_damper» ≡ pos 0)
   unfolding alarms true-delay
@@ -51,7 +56,7 @@ module _ (s : AlarmsState) (t : Float) (input : AlarmInput) (choices : Choices) 
   -- A delay whose input is false gives false, whatever it holds: with the fan on that is the sensor's, with the fan off the others'.
   pub sensor-with-fan-on : input .«supply_fan_status» ≡ true → given .«airflow_sensor» ≡ pos 0
   unfolding alarms
-  sensor-with-fan-on e = rw (e, and-false, false-gives-false)
+  sensor-with-fan-on e = rw (e, and-false, false-either-way, false-gives-false, false-either-way)
 
   pub low-with-fan-off : input .«supply_fan_status» ≡ false → given .«low_airflow» ≡ pos 0
   unfolding alarms

@@ -6,6 +6,7 @@
 -- The Rust's constants DESIGN_MINIMUM_FLOW and DESIGN_COOLING_MAXIMUM_FLOW are fields of `choices` (document 02, N13).
 -- `delay-on-init` is false in the Rust. A quiet start runs eight true delays with true: the three of system requests, and all of alarms
 -- but the fan's arming, which starts alike in both (document 02, N4).
+-- The airflow sensor alarm has two readings: the first is the Rust's, the second that of document 02, N12.
 use mathlib.Core.Bool.{Bool, false, not, _&&_}
 use lib.IntN.{ℤ, pos}
 use lib.Ieee.{Float}
@@ -172,6 +173,7 @@ fresh-alarms =
     }
 
 -- Rust `AlarmsState::output`. Both low-flow memories are stored before the fan's arming enters.
+-- Where the box has the second reading of the airflow sensor alarm, its delay runs on the fan alone, and flow is asked for at this tick.
 unfoldable pub alarms : AlarmsState → Float → AlarmInput → Choices → AlarmsStep
 alarms s t input choices =
     let delay-on-init = choices .quiet in
@@ -190,8 +192,11 @@ alarms s t input choices =
     let low-airflow = if level-two then pos 2 else if level-three then pos 3 else pos 0 in
     let flow-high = greater-hysteretic (input .«discharge_airflow») (decimal 1 10 ⊗ choices .«design_cooling_maximum_flow»)
     FLOW_HYSTERESIS (s .«flow_high») in
-    let sensor-held = true-delay (s .«sensor_delay») t (flow-high && not (input .«supply_fan_status»)) (decimal 600 1) delay-on-init in
-    let airflow-sensor = if sensor-held .output && occupied then pos 3 else pos 0 in
+    let fan-off = not (input .«supply_fan_status») in
+    let sensor-input = if choices .«second_reading» then fan-off else flow-high && fan-off in
+    let sensor-held = true-delay (s .«sensor_delay») t sensor-input (decimal 600 1) delay-on-init in
+    let sensor-on = if choices .«second_reading» then sensor-held .output && flow-high else sensor-held .output in
+    let airflow-sensor = if sensor-on && occupied then pos 3 else pos 0 in
     let damper-closed = less-hysteretic (input .«damper_position») DAMPER_POSITION_HYSTERESIS
     (decimal 5 10 ⊗ DAMPER_POSITION_HYSTERESIS) (s .«damper_closed») in
     let leak-held = true-delay (s .«leak_delay») t (input .«supply_fan_status» && damper-closed && flow-high)

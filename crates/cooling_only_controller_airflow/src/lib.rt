@@ -522,9 +522,12 @@ impl AlarmsState {
             FLOW_HYSTERESIS,
             self.flow_high,
         ).output;
+        // In the second reading the delay runs on the fan alone, and flow has to be high at this tick.
+        let second = choices.second_reading;
         let sensor_held = self.sensor_delay
-            .output(t, flow_high & !fan, 600.0, choices.quiet);
-        let airflow_sensor = alarm_level(sensor_held.output & occupied, 3);
+            .output(t, (second | flow_high) & !fan, 600.0, choices.quiet);
+        let sensor_on = sensor_held.output & (!second | flow_high);
+        let airflow_sensor = alarm_level(sensor_on & occupied, 3);
         let damper_closed = less_hysteretic(
             input.damper_position,
             DAMPER_POSITION_HYSTERESIS,
