@@ -4,6 +4,7 @@ use mathlib.Core.Path.{_≡_, refl, sym, subst}
 use mathlib.Core.Logic.{inl, inr}
 use mathlib.Core.List.{List, [], _∷_}
 use Rattle.box_choices.specs.declared.Choices.{Choices}
+use Rattle.cdl_recurrences.specs.DeadBand.{Related}
 use Rattle.cdl_recurrences.specs.declared.OptionalTime.{OptionalTime}
 use Rattle.air_box.specs.AirBox.{unticked, accepted-tick, tick, outputs-or-number, refusal-number}
 use Rattle.air_box.specs.Demand1.{AllYes, FirstNo}
@@ -70,3 +71,25 @@ shown-after choices h (k ∷ ks) =
     by-verdict (newest-time h) k
     (λ all. subst (λ (s : AirBoxStep). ShownAfter choices h (shown (step-by k s ∷ steps (s .state) ks))) (sym (grown-accepts choices h k all)) (all, refl, shown-after choices (k ∷ h) ks))
     (λ reason first. subst (λ (s : AirBoxStep). ShownAfter choices h (shown (step-by k s ∷ steps (s .state) ks))) (sym (grown-refuses choices h k reason first)) (shown-after choices h ks))
+
+-- ---- two boxes along one night: they have had the same ticks, and what was chosen when they were built decides no question
+module _ (one other : Choices) (R : NightStep → NightStep → Type 0)
+    (accepted : (h : List Tick) (k : Tick) → AllAccepted (k ∷ h)
+        → R (record { ticked = k; given = inl (controller-step-of (grown one h) k .output); box = grown one (k ∷ h) })
+        (record { ticked = k; given = inl (controller-step-of (grown other h) k .output); box = grown other (k ∷ h) }))
+    (refused : (h : List Tick) (k : Tick) (reason : Refusal)
+        → R (record { ticked = k; given = inr (refusal-number reason); box = grown one h }) (record { ticked = k; given = inr (refusal-number reason); box = grown other h })) where
+  abbrev Both : Tick → List Tick → AirBoxStep → AirBoxStep → Type 0
+  Both k ks a b = Related R (step-by k a ∷ steps (a .state) ks) (step-by k b ∷ steps (b .state) ks)
+
+  pub along-two : (h ks : List Tick) → AllAccepted h → Related R (steps (grown one h) ks) (steps (grown other h) ks)
+  unfolding accepted-tick
+  along-two h [] a = tt
+  along-two h (k ∷ ks) a =
+      by-verdict (newest-time h) k
+      (λ all.
+      subst (λ (s : AirBoxStep). Both k ks s (tick (grown other h) k)) (sym (grown-accepts one h k all))
+      (subst (λ (s : AirBoxStep). Both k ks (accepted-tick (grown one h) k) s) (sym (grown-accepts other h k all)) (accepted h k (all, a), along-two (k ∷ h) ks (all, a))))
+      (λ reason first.
+      subst (λ (s : AirBoxStep). Both k ks s (tick (grown other h) k)) (sym (grown-refuses one h k reason first))
+      (subst (λ (s : AirBoxStep). Both k ks (record { state = grown one h; answer = Refused reason }) s) (sym (grown-refuses other h k reason first)) (refused h k reason, along-two h ks a)))

@@ -10,3 +10,4 @@ pub mod Demand3
 pub mod LowAirflowAlarm
 pub mod QuietStart
 pub mod OtherSizes
+pub mod SecondReading

@@ -39,8 +39,8 @@ four a b c d = (
   λ p. and-i (a && b) (c && d) (and-i a b (p .0) (p .1)) (and-i c d (p .2) (p .3)),
 )
 
-in-range : (quiet : Bool) (minimum maximum : Float) → T (design-flows-within (chosen quiet minimum maximum)) ↔ InRange minimum maximum
-in-range quiet minimum maximum =
+in-range : (quiet : Bool) (minimum maximum : Float) (second-reading : Bool) → T (design-flows-within (chosen quiet minimum maximum second-reading)) ↔ InRange minimum maximum
+in-range quiet minimum maximum second-reading =
     let tests = four (maximum ≥ᶠ decimal 1 10) (maximum ≤ᶠ decimal 10 1) (minimum ≥ᶠ zero) (minimum ≤ᶠ maximum) in (
       λ t. let p = tests .0 t in record { maximum-from = p .0; maximum-to = p .1; minimum-from = p .2; minimum-to = p .3 },
       λ r. tests .1 (r .maximum-from, r .maximum-to, r .minimum-from, r .minimum-to),
@@ -72,23 +72,23 @@ built-if false choices t = absurd t
 building : Building
 building =
     record {
-      refused = λ quiet minimum maximum.
-          let choices = chosen quiet minimum maximum in
+      refused = λ quiet minimum maximum second-reading.
+          let choices = chosen quiet minimum maximum second-reading in
           let test = refused-if (design-flows-within choices) choices in
-          let range = in-range quiet minimum maximum in
+          let range = in-range quiet minimum maximum second-reading in
           rw (build-by-ranges choices) (
             λ e r. T-not (design-flows-within choices) (test .0 e) (range .1 r),
             λ out. test .1 (not-T (design-flows-within choices) (λ t. out (range .0 t))),
           );
-      no-other-number = λ quiet minimum maximum number e. let choices = chosen quiet minimum maximum in number-8 (design-flows-within choices) choices number (sym (build-by-ranges choices) ∙ e);
-      built = λ quiet minimum maximum r. let choices = chosen quiet minimum maximum in build-by-ranges choices ∙ built-if (design-flows-within choices) choices (in-range quiet minimum maximum .1 r);
+      no-other-number = λ quiet minimum maximum second-reading number e. let choices = chosen quiet minimum maximum second-reading in number-8 (design-flows-within choices) choices number (sym (build-by-ranges choices) ∙ e);
+      built = λ quiet minimum maximum second-reading r. let choices = chosen quiet minimum maximum second-reading in build-by-ranges choices ∙ built-if (design-flows-within choices) choices (in-range quiet minimum maximum second-reading .1 r);
       nan-minimum = λ minimum maximum n r. number-at-most minimum maximum (inl n) (r .minimum-to);
       nan-maximum = λ minimum maximum n r. number-at-most maximum (decimal 10 1) (inl n) (r .maximum-to);
-      lowest = in-range false zero (decimal 1 10) .0 (unfold round le in tt);
-      lowest-equal = in-range false (decimal 1 10) (decimal 1 10) .0 (unfold round le in tt);
-      highest = in-range false zero (decimal 10 1) .0 (unfold round le in tt);
-      highest-equal = in-range false (decimal 10 1) (decimal 10 1) .0 (unfold round le in tt);
-      minus-zero = in-range false (neg zero) (decimal 15 10) .0 (unfold round le neg in tt);
+      lowest = in-range false zero (decimal 1 10) false .0 (unfold round le in tt);
+      lowest-equal = in-range false (decimal 1 10) (decimal 1 10) false .0 (unfold round le in tt);
+      highest = in-range false zero (decimal 10 1) false .0 (unfold round le in tt);
+      highest-equal = in-range false (decimal 10 1) (decimal 10 1) false .0 (unfold round le in tt);
+      minus-zero = in-range false (neg zero) (decimal 15 10) false .0 (unfold round le neg in tt);
       without-naming = λ start. refl;
     }
 

@@ -29,7 +29,8 @@ use Rattle.air_box.specs.declared.Verdict.{Verdict}
 use Rattle.air_box.specs.declared.Verdict.the-variants.{Accept, Refuse}
 use Rattle.air_box.proofs.Demands.{questions-accept, questions-refuse, by-verdict}
 use Rattle.nights.specs.Nights.{NightStep, steps, box-after, fan}
-use Rattle.nights.specs.QuietStart.{alarms-armed, old-alarms, controller-with, old-accepted-tick, old-decided, old-tick, old-steps, OnePlace, PlainUntouched, NineOutputs, NeverLater, SameFields, SameButLowAirflow, EveryNight, SameFromAStop, BenchCase, QuietStart}
+use Rattle.nights.specs.AlarmsStage.{controller-with, accepted-with, decided-with, tick-with}
+use Rattle.nights.specs.QuietStart.{alarms-armed, old-alarms, old-tick, old-steps, OnePlace, PlainUntouched, NineOutputs, NeverLater, SameFields, SameButLowAirflow, EveryNight, SameFromAStop, BenchCase, QuietStart}
 use Rattle.nights.proofs.Histories.{newest-time}
 use Rattle.nights.proofs.AcceptedTicks.{AllAccepted}
 use Rattle.nights.proofs.Grown.{grown, grown-last, grown-choices, grown-accepts, grown-refuses}
@@ -45,13 +46,13 @@ ArmsAlike box k =
     let arming = box .state .alarms .«fan_armed» in
     true-delay arming (k .t) (fan k) (decimal 1800 1) false ≡ true-delay arming (k .t) (fan k) (decimal 1800 1) (box .choices .quiet)
 
-decided-alike : (v : Verdict) (box : AirBox) (k : Tick) → ArmsAlike box k → decided v box k ≡ old-decided v box k
-unfolding accepted-tick old-accepted-tick controller-output alarms alarms-armed
+decided-alike : (v : Verdict) (box : AirBox) (k : Tick) → ArmsAlike box k → decided v box k ≡ decided-with old-alarms v box k
+unfolding accepted-tick accepted-with controller-output alarms alarms-armed
 decided-alike Accept box k e = rw e
 decided-alike (Refuse reason) box k e = refl
 
 tick-alike : (box : AirBox) (k : Tick) → ArmsAlike box k → tick box k ≡ old-tick box k
-unfolding tick old-tick
+unfolding tick tick-with
 tick-alike box k e = decided-alike (questions (box .«last_time») k) box k e
 
 plain-untouched : PlainUntouched
@@ -117,10 +118,10 @@ old-box new old same =
       same .choices,
     )
 
-fields-of : (new old : AirBox) (k : Tick) → SameFields new old → SameFields (accepted-tick new k .state) (old-accepted-tick old k .state)
-unfolding accepted-tick old-accepted-tick controller-output alarms alarms-armed
+fields-of : (new old : AirBox) (k : Tick) → SameFields new old → SameFields (accepted-tick new k .state) (accepted-with old-alarms old k .state)
+unfolding accepted-tick accepted-with controller-output alarms alarms-armed
 fields-of new old k same =
-    subst (λ (o : AirBox). SameFields (accepted-tick new k .state) (old-accepted-tick o k .state)) (sym (old-box new old same)) record {
+    subst (λ (o : AirBox). SameFields (accepted-tick new k .state) (accepted-with old-alarms o k .state)) (sym (old-box new old same)) record {
       time-suppression = refl;
       control-loops = refl;
       setpoints = refl;
@@ -155,16 +156,16 @@ outputs-of new old k same =
     }
 
 -- With the fan off the three delays are given false, and what they held is nothing to them.
-stop-alike : (new old : AirBox) (k : Tick) → SameFields new old → fan k ≡ false → accepted-tick new k ≡ old-accepted-tick old k
-unfolding accepted-tick old-accepted-tick controller-output alarms alarms-armed true-delay true-delay-output
+stop-alike : (new old : AirBox) (k : Tick) → SameFields new old → fan k ≡ false → accepted-tick new k ≡ accepted-with old-alarms old k
+unfolding accepted-tick accepted-with controller-output alarms alarms-armed true-delay true-delay-output
 stop-alike new old k same off =
-    subst (λ (o : AirBox). accepted-tick new k ≡ old-accepted-tick o k) (sym (old-box new old same))
+    subst (λ (o : AirBox). accepted-tick new k ≡ accepted-with old-alarms o k) (sym (old-box new old same))
     (rw (off, same .setpoint-nonzero, same .setpoint-on, same .low-half, same .low-seventy, same .flow-high, same .sensor-delay, same .damper-closed, same .leak-delay, and-false, and-false))
 
 -- ---- both boxes after a history of accepted ticks
 abbrev old-grown : Choices → List Tick → AirBox
 old-grown choices [] = unticked choices
-old-grown choices (k ∷ h) = old-accepted-tick (old-grown choices h) k .state
+old-grown choices (k ∷ h) = accepted-with old-alarms (old-grown choices h) k .state
 
 fields-kept : (choices : Choices) (h : List Tick) → SameFields (grown choices h) (old-grown choices h)
 fields-kept choices [] = record {
@@ -191,12 +192,12 @@ fields-kept choices (k ∷ h) = fields-of (grown choices h) (old-grown choices h
 
 new-taken : (box : AirBox) (k : Tick)
     → Taken false (box .choices) k (box .state .alarms) (accepted-tick box k .state .state .alarms) (controller-step-of box k .output .«low_airflow_alarm»)
-unfolding accepted-tick old-accepted-tick controller-output alarms alarms-armed
+unfolding accepted-tick accepted-with controller-output alarms alarms-armed
 new-taken box k = (_, refl, refl, refl, refl)
 
 old-taken : (box : AirBox) (k : Tick)
-    → Taken (box .choices .quiet) (box .choices) k (box .state .alarms) (old-accepted-tick box k .state .state .alarms) (old-step-of box k .output .«low_airflow_alarm»)
-unfolding old-accepted-tick
+    → Taken (box .choices .quiet) (box .choices) k (box .state .alarms) (accepted-with old-alarms box k .state .state .alarms) (old-step-of box k .output .«low_airflow_alarm»)
+unfolding accepted-with
 old-taken box k = (_, refl, refl, refl, refl)
 
 abbrev new-along : (choices : Choices) → AlarmsAlong false choices
@@ -223,12 +224,12 @@ earlier-or-same choices = never-later choices (new-along choices) (old-along cho
 old-last : (choices : Choices) (h : List Tick) → old-grown choices h .«last_time» ≡ newest-time h
 old-last choices h = sym (fields-kept choices h .last-time) ∙ grown-last choices h
 
-old-accepts : (choices : Choices) (h : List Tick) (k : Tick) → AllYes (newest-time h) k → old-tick (old-grown choices h) k ≡ old-accepted-tick (old-grown choices h) k
-unfolding old-tick
+old-accepts : (choices : Choices) (h : List Tick) (k : Tick) → AllYes (newest-time h) k → old-tick (old-grown choices h) k ≡ accepted-with old-alarms (old-grown choices h) k
+unfolding tick-with
 old-accepts choices h k all = rw (old-last choices h, questions-accept (newest-time h) k .1 all)
 
 old-refuses : (choices : Choices) (h : List Tick) (k : Tick) (reason : Refusal) → FirstNo reason (newest-time h) k → old-tick (old-grown choices h) k ≡ record { state = old-grown choices h; answer = Refused reason }
-unfolding old-tick
+unfolding tick-with
 old-refuses choices h k reason first = rw (old-last choices h, questions-refuse (newest-time h) k reason .1 first)
 
 abbrev Both : Tick → List Tick → AirBoxStep → AirBoxStep → Type 0
@@ -237,7 +238,7 @@ Both k ks new old =
     (record { ticked = k; given = outputs-or-number (old .answer); box = old .state } ∷ old-steps (old .state) ks)
 
 along-both : (choices : Choices) (h ks : List Tick) → AllAccepted h → Related SameButLowAirflow (steps (grown choices h) ks) (old-steps (old-grown choices h) ks)
-unfolding accepted-tick old-accepted-tick
+unfolding accepted-tick accepted-with
 along-both choices h [] a = tt
 along-both choices h (k ∷ ks) a =
     by-verdict (newest-time h) k
@@ -285,7 +286,7 @@ same-from-a-stop choices before k rest all off =
     rw (new, old) (stopped choices g k rest (subst (λ (last : OptionalTime). AllYes last k) (ap (λ (b : AirBox). b .«last_time») new ∙ grown-last choices g) all) off)
 
 bench-case : BenchCase
-unfolding questions accepted-tick tick controller-output damper alarms old-accepted-tick old-tick alarms-armed
+unfolding questions accepted-tick tick controller-output damper alarms accepted-with tick-with alarms-armed
     true-delay true-delay-output hysteresis less-hysteretic greater-hysteretic max round neg sub add mul lt le eq isNan
 bench-case = record { armed = refl; low = refl; armed-before = refl; low-before = refl }
 

@@ -1,4 +1,4 @@
--- The airflow sensor alarm of a box after a history of accepted ticks, from either start: its memories are those of the dead band and of the true delay over that history, and the alarm is 3 by them. Assumes nothing.
+-- The airflow sensor alarm of a box after a history of accepted ticks, in either reading and from either start: its memories are those of the dead band and of the true delay over that history, and the alarm is 3 by them. Assumes nothing.
 use mathlib.Core.Path.{_≡_, refl}
 use mathlib.Core.Logic.{_↔_, _⊎_}
 use mathlib.Core.List.{List, [], _∷_}
@@ -31,7 +31,7 @@ use Rattle.nights.proofs.Grown.{grown, grown-choices}
 use Rattle.nights.proofs.FlowHighRule.{high-after, high-law}
 use Rattle.nights.proofs.Conditions.{samples}
 
--- ---- the delay's input: flow is high with the fan off
+-- ---- the delay's input in the first reading: flow is high with the fan off
 abbrev pub high-fan-off : Float → List Tick → Bool
 high-fan-off limit [] = false
 high-fan-off limit (k ∷ h) = high-after limit (k ∷ h) && not (fan k)
@@ -44,12 +44,28 @@ high-fan-off-means limit held h k =
       λ f. and-i high (not (fan k)) (law .1 (f .0)) (f .1),
     )
 
+-- ---- in the second: the fan is off
+abbrev pub fan-off : List Tick → Bool
+fan-off [] = false
+fan-off (k ∷ h) = not (fan k)
+
+-- ---- by whether the reading is the second
+abbrev pub sensor-input : Bool → Float → List Tick → Bool
+sensor-input second limit h = if second then fan-off h else high-fan-off limit h
+
 pub delay-reached : Reach (decimal 600 1) 600
 delay-reached = decimal-reached 600 (omega arith)
 
 -- ---- the memories
 abbrev pub sensor-delay-after : Choices → List Tick → TrueDelayState
-sensor-delay-after choices h = true-delay-after (decimal 600 1) (choices .quiet) (samples (high-fan-off (H choices)) h)
+sensor-delay-after choices h = true-delay-after (decimal 600 1) (choices .quiet) (samples (sensor-input (choices .«second_reading») (H choices)) h)
+
+-- whether the alarm is on by them, in any mode
+abbrev pub on-by : Bool → Bool → Bool → Bool
+on-by second held high = if second then held && high else held
+
+abbrev pub sensor-on-after : Choices → List Tick → Bool
+sensor-on-after choices h = on-by (choices .«second_reading») (sensor-delay-after choices h .held) (high-after (H choices) h)
 
 flow-high-kept : (choices : Choices) (h : List Tick) → grown choices h .state .alarms .«flow_high» ≡ high-after (H choices) h
 unfolding accepted-tick controller-output alarms
@@ -65,7 +81,7 @@ sensor-delay-kept choices (k ∷ h) = rw (sensor-delay-kept choices h, flow-high
 abbrev alarm-at : Choices → List Tick → Tick → ℤ
 alarm-at choices h k = controller-step-of (grown choices h) k .output .«airflow_sensor_alarm»
 
-alarm-by-memories : (choices : Choices) (h : List Tick) (k : Tick) → alarm-at choices h k ≡ (if sensor-delay-after choices (k ∷ h) .held && (mode k ==ᶻ 1) then pos 3 else pos 0)
+alarm-by-memories : (choices : Choices) (h : List Tick) (k : Tick) → alarm-at choices h k ≡ (if sensor-on-after choices (k ∷ h) && (mode k ==ᶻ 1) then pos 3 else pos 0)
 unfolding controller-output alarms
 alarm-by-memories choices h k = rw (held-is-output, sensor-delay-kept choices h, flow-high-kept choices h, grown-choices choices h)
 
@@ -73,15 +89,15 @@ three-if : (b : Bool) → ((if b then pos 3 else pos 0) ≡ pos 3) ↔ T b
 three-if true = (λ e. tt, λ t. refl)
 three-if false = (λ e. let z : _≡_ {A = ℕ} 0 1 = cc in omega arith, λ t. absurd t)
 
--- it is 3 exactly if the mode is 1 and the delay's output is true; else it is 0
-pub alarm-is-three : (choices : Choices) (h : List Tick) (k : Tick) → (alarm-at choices h k ≡ pos 3) ↔ ((mode k ≡ pos 1) × T (sensor-delay-after choices (k ∷ h) .held))
+-- it is 3 exactly if the mode is 1 and the alarm is on; else it is 0
+pub alarm-is-three : (choices : Choices) (h : List Tick) (k : Tick) → (alarm-at choices h k ≡ pos 3) ↔ ((mode k ≡ pos 1) × T (sensor-on-after choices (k ∷ h)))
 alarm-is-three choices h k =
-    let held = sensor-delay-after choices (k ∷ h) .held in
-    let level = three-if (held && (mode k ==ᶻ 1)) in
+    let on = sensor-on-after choices (k ∷ h) in
+    let level = three-if (on && (mode k ==ᶻ 1)) in
     rw (alarm-by-memories choices h k) (
-      λ e. (equals-means (mode k) 1 .0 (and-r held (mode k ==ᶻ 1) (level .0 e)), and-l held (mode k ==ᶻ 1) (level .0 e)),
-      λ p. level .1 (and-i held (mode k ==ᶻ 1) (p .1) (equals-means (mode k) 1 .1 (p .0))),
+      λ e. (equals-means (mode k) 1 .0 (and-r on (mode k ==ᶻ 1) (level .0 e)), and-l on (mode k ==ᶻ 1) (level .0 e)),
+      λ p. level .1 (and-i on (mode k ==ᶻ 1) (p .1) (equals-means (mode k) 1 .1 (p .0))),
     )
 
 pub alarm-three-or-none : (choices : Choices) (h : List Tick) (k : Tick) → (alarm-at choices h k ≡ pos 3) ⊎ (alarm-at choices h k ≡ pos 0)
-alarm-three-or-none choices h k = rw (alarm-by-memories choices h k) (level-or-none 3 (sensor-delay-after choices (k ∷ h) .held && (mode k ==ᶻ 1)))
+alarm-three-or-none choices h k = rw (alarm-by-memories choices h k) (level-or-none 3 (sensor-on-after choices (k ∷ h) && (mode k ==ᶻ 1)))

@@ -1,4 +1,5 @@
--- Demand 3: the claim about whole nights, on a box freshly built with a plain start, of any design flows (document 02, N13).
+-- Demand 3: the claim about whole nights, on a box freshly built with a plain start, of any design flows (document 02, N13), with the first
+-- reading of the alarm, which is the Rust's. SecondReading.antt has the same for either reading, of which this is a case.
 -- No number is asked to lie in a range here: it holds of every two numbers that stand in a box as its design flows.
 -- A night is any list of ticks, and each of its ticks stands beside what the box gave for it: outputs, if it was accepted, or a number.
 use mathlib.Core.Path.{_≡_}
@@ -88,9 +89,9 @@ TwoNights one other =
 
 -- ---- demand 3
 
--- a plain start with these design flows
+-- a plain start with these design flows, and the Rust's reading of the alarm
 abbrev pub plain : Float → Float → Choices
-plain minimum maximum = chosen false minimum maximum
+plain minimum maximum = chosen false minimum maximum false
 
 pub record Demand3 : Type 0 where
   pub flow-high-rule : (minimum maximum : Float) → FlowHighRule (plain minimum maximum)

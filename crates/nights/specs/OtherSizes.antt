@@ -5,7 +5,7 @@ use mathlib.Core.Path.{_≡_}
 use mathlib.Core.Logic.{_↔_, _⊎_, inl, inr}
 use mathlib.Core.List.{List, map}
 use Prim.Native.Nat.{ℕ}
-use mathlib.Core.Bool.{Bool, not}
+use mathlib.Core.Bool.{Bool, false, not}
 use lib.Dec.{T}
 use lib.Ieee.{Float, isNan, neg}
 use Rattle.f64_helpers.specs.F64.{_⊖_, _<ᶠ_, _≤ᶠ_, _≥ᶠ_, decimal, zero}
@@ -29,17 +29,19 @@ pub record InRange (minimum maximum : Float) : Type 0 where
   pub minimum-to : T (minimum ≤ᶠ maximum)
 
 -- what building gives with these choices: the box, or a number
-abbrev pub gives : Bool → Float → Float → AirBox ⊎ ℕ
-gives quiet minimum maximum = box-or-number (build (chosen quiet minimum maximum))
+abbrev pub gives : Bool → Float → Float → Bool → AirBox ⊎ ℕ
+gives quiet minimum maximum second-reading = box-or-number (build (chosen quiet minimum maximum second-reading))
 
 pub record Building : Type 0 where
   -- it refuses, with 8, exactly where a design flow is out of its range
-  pub refused : (quiet : Bool) (minimum maximum : Float) → (gives quiet minimum maximum ≡ inr 8) ↔ ¬ InRange minimum maximum
+  pub refused : (quiet : Bool) (minimum maximum : Float) (second-reading : Bool)
+      → (gives quiet minimum maximum second-reading ≡ inr 8) ↔ ¬ InRange minimum maximum
   -- there is no other number
-  pub no-other-number : (quiet : Bool) (minimum maximum : Float) (number : ℕ) → gives quiet minimum maximum ≡ inr number → number ≡ 8
-  -- else it gives a box that has had no tick, and has the design flows as they came
-  pub built : (quiet : Bool) (minimum maximum : Float) → InRange minimum maximum
-      → gives quiet minimum maximum ≡ inl (unticked (chosen quiet minimum maximum))
+  pub no-other-number : (quiet : Bool) (minimum maximum : Float) (second-reading : Bool) (number : ℕ)
+      → gives quiet minimum maximum second-reading ≡ inr number → number ≡ 8
+  -- else it gives a box that has had no tick, and has the design flows and the other choices as they came
+  pub built : (quiet : Bool) (minimum maximum : Float) (second-reading : Bool) → InRange minimum maximum
+      → gives quiet minimum maximum second-reading ≡ inl (unticked (chosen quiet minimum maximum second-reading))
   -- a NaN is in no range
   pub nan-minimum : (minimum maximum : Float) → T (isNan minimum) → ¬ InRange minimum maximum
   pub nan-maximum : (minimum maximum : Float) → T (isNan maximum) → ¬ InRange minimum maximum
@@ -49,8 +51,8 @@ pub record Building : Type 0 where
   pub highest : InRange zero (decimal 10 1)
   pub highest-equal : InRange (decimal 10 1) (decimal 10 1)
   pub minus-zero : InRange (neg zero) (decimal 15 10)
-  -- a box that is built without naming design flows has 0.5 and 1.5
-  pub without-naming : (start : Start) → fresh-box start ≡ unticked (chosen (delay-on-init start) (decimal 5 10) (decimal 15 10))
+  -- a box that is built without naming design flows has 0.5 and 1.5, and the first reading
+  pub without-naming : (start : Start) → fresh-box start ≡ unticked (chosen (delay-on-init start) (decimal 5 10) (decimal 15 10) false)
 
 -- ---- a box keeps what it was built with
 
@@ -60,7 +62,7 @@ pub record Kept : Type 0 where
   -- and so after any ticks
   pub for-ever : (box : AirBox) (ticks : List Tick) → box-after tick box ticks .choices ≡ box .choices
 
--- ---- a box with 0.5 and 1.5 is the old box
+-- ---- a box with 0.5 and 1.5, and the first reading, is the old box
 
 -- the old box as one of today
 abbrev pub of-fixed : FixedBox → AirBox

@@ -1,6 +1,6 @@
 -- Document 02, N4: under the quiet start the fan's arming delay starts as in a plain start. What moves by that, and what does not.
 -- The method `AirBox::tick` is proved to return `tick`, by which every night here is run; beside it stands the box as it was before N4.
--- Both are of any design flows (N13).
+-- Both are of any design flows (N13) and either reading of the airflow sensor alarm (N12).
 use mathlib.Core.Path.{_≡_}
 use mathlib.Core.Logic.{_⊎_, inl, inr}
 use mathlib.Core.List.{List, [], _∷_}
@@ -16,7 +16,6 @@ use Rattle.box_choices.specs.BoxChoices.{usual}
 use Rattle.box_choices.specs.declared.Choices.{Choices}
 use Rattle.cdl_recurrences.specs.CdlRecurrences.{greater-hysteretic, hysteresis, less-hysteretic}
 use Rattle.cdl_recurrences.specs.DeadBand.{Related}
-use Rattle.cdl_recurrences.specs.declared.OptionalTime.the-variants.{At}
 use Rattle.cooling_only_controller_timing.specs.Timing.{true-delay}
 use Rattle.cooling_only_controller_airflow.specs.Airflow.{FLOW_HYSTERESIS, DAMPER_POSITION_HYSTERESIS, alarms}
 use Rattle.cooling_only_controller_airflow.specs.declared.AlarmInput.{AlarmInput}
@@ -26,17 +25,14 @@ use Rattle.cooling_only_controller.specs.Controller.{controller-output}
 use Rattle.cooling_only_controller.specs.declared.ControllerInput.{ControllerInput}
 use Rattle.cooling_only_controller.specs.declared.ControllerOutput.{ControllerOutput}
 use Rattle.cooling_only_controller.specs.declared.ControllerState.{ControllerState}
-use Rattle.cooling_only_controller.specs.declared.ControllerStep.{ControllerStep}
-use Rattle.air_box.specs.AirBox.{questions, unticked, tick, outputs-or-number}
+use Rattle.air_box.specs.AirBox.{unticked, tick}
 use Rattle.air_box.specs.BenchTick.{bench-tick}
 use Rattle.air_box.specs.Demand1.{AllYes}
 use Rattle.air_box.specs.declared.Tick.{Tick}
 use Rattle.air_box.specs.declared.AirBox.{AirBox}
 use Rattle.air_box.specs.declared.AirBoxStep.{AirBoxStep}
-use Rattle.air_box.specs.declared.Answer.the-variants.{Accepted, Refused}
-use Rattle.air_box.specs.declared.Verdict.{Verdict}
-use Rattle.air_box.specs.declared.Verdict.the-variants.{Accept, Refuse}
 use Rattle.nights.specs.Nights.{NightStep, steps, night-of, box-after, fan}
+use Rattle.nights.specs.AlarmsStage.{controller-with, tick-with, steps-with}
 
 -- ---- the box before N4
 
@@ -59,8 +55,11 @@ alarms-armed arming s t input choices =
     let low-airflow = if level-two then pos 2 else if level-three then pos 3 else pos 0 in
     let flow-high = greater-hysteretic (input .«discharge_airflow») (decimal 1 10 ⊗ choices .«design_cooling_maximum_flow»)
     FLOW_HYSTERESIS (s .«flow_high») in
-    let sensor-held = true-delay (s .«sensor_delay») t (flow-high && not (input .«supply_fan_status»)) (decimal 600 1) delay-on-init in
-    let airflow-sensor = if sensor-held .output && occupied then pos 3 else pos 0 in
+    let fan-off = not (input .«supply_fan_status») in
+    let sensor-input = if choices .«second_reading» then fan-off else flow-high && fan-off in
+    let sensor-held = true-delay (s .«sensor_delay») t sensor-input (decimal 600 1) delay-on-init in
+    let sensor-on = if choices .«second_reading» then sensor-held .output && flow-high else sensor-held .output in
+    let airflow-sensor = if sensor-on && occupied then pos 3 else pos 0 in
     let damper-closed = less-hysteretic (input .«damper_position») DAMPER_POSITION_HYSTERESIS
     (decimal 5 10 ⊗ DAMPER_POSITION_HYSTERESIS) (s .«damper_closed») in
     let leak-held = true-delay (s .«leak_delay») t (input .«supply_fan_status» && damper-closed && flow-high)
@@ -90,63 +89,12 @@ alarms-armed arming s t input choices =
 abbrev pub old-alarms : AlarmsState → Float → AlarmInput → Choices → AlarmsStep
 old-alarms s t input choices = alarms-armed (choices .quiet) s t input choices
 
--- The controller with a given alarms stage in place of its own. That stage is the last: what it gives is in the outputs and the state alone.
-abbrev pub controller-with : (AlarmsState → Float → AlarmInput → Choices → AlarmsStep)
-    → ControllerState → Float → ControllerInput → Choices → ControllerStep
-controller-with stage s t input choices =
-    let before = controller-output s t input choices in
-    let alarms = stage (s .alarms) t record {
-      «discharge_airflow» = input .«discharge_airflow»;
-      «active_airflow_setpoint» = before .output .«airflow_setpoint»;
-      «supply_fan_status» = input .«supply_fan_status»;
-      «operation_mode» = input .«operating_mode»;
-      «damper_position» = before .output .«damper_command»;
-    } choices in
-    record {
-      state = record {
-        «time_suppression» = before .state .«time_suppression»;
-        «control_loops» = before .state .«control_loops»;
-        setpoints = before .state .setpoints;
-        «zone_states» = before .state .«zone_states»;
-        dampers = before .state .dampers;
-        «system_requests» = before .state .«system_requests»;
-        alarms = alarms .state;
-      };
-      output = record {
-        «airflow_setpoint» = before .output .«airflow_setpoint»;
-        «damper_command» = before .output .«damper_command»;
-        «adjusted_population_flow» = before .output .«adjusted_population_flow»;
-        «adjusted_area_flow» = before .output .«adjusted_area_flow»;
-        «minimum_outdoor_airflow» = before .output .«minimum_outdoor_airflow»;
-        «zone_temperature_reset_request» = before .output .«zone_temperature_reset_request»;
-        «zone_pressure_reset_request» = before .output .«zone_pressure_reset_request»;
-        «low_airflow_alarm» = alarms .output .«low_airflow»;
-        «airflow_sensor_alarm» = alarms .output .«airflow_sensor»;
-        «leaking_damper_alarm» = alarms .output .«leaking_damper»;
-      };
-    }
-
--- the box, as in AirBox.antt, with that controller
-unfoldable pub old-accepted-tick : AirBox → Tick → AirBoxStep
-old-accepted-tick box k =
-    let step = controller-with old-alarms (box .state) (k .t) (k .input) (box .choices) in
-    record {
-      state = record { state = step .state; «last_time» = At (k .t); choices = box .choices };
-      answer = Accepted (step .output);
-    }
-
-abbrev pub old-decided : Verdict → AirBox → Tick → AirBoxStep
-old-decided Accept box k = old-accepted-tick box k
-old-decided (Refuse reason) box k = record { state = box; answer = Refused reason }
-
-unfoldable pub old-tick : AirBox → Tick → AirBoxStep
-old-tick box k = old-decided (questions (box .«last_time») k) box k
+-- the box with that stage
+abbrev pub old-tick : AirBox → Tick → AirBoxStep
+old-tick box k = tick-with old-alarms box k
 
 abbrev pub old-steps : AirBox → List Tick → List NightStep
-old-steps box [] = []
-old-steps box (k ∷ ks) =
-    record { ticked = k; given = outputs-or-number (old-tick box k .answer); box = old-tick box k .state }
-    ∷ old-steps (old-tick box k .state) ks
+old-steps box ticks = steps-with old-alarms box ticks
 
 -- ---- the definition changed in one place
 

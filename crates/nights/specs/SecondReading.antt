@@ -1,0 +1,191 @@
+-- Document 02, N12: the guideline's own sensor alarm, as a second reading that is chosen when a box is built. The first reading is the Rust's.
+-- The method `AirBox::tick` is proved to return `tick`, by which every night here is run. That the choice is taken as it comes and stays with the
+-- box is said of all choices in OtherSizes.antt (`built`, `without-naming`, `Kept`), and that the sensor alarm stands with neither of the others of
+-- every box, so of both readings, in LeakFirst.antt (`sensor-alone`).
+use mathlib.Core.Path.{_≡_}
+use mathlib.Core.Logic.{_↔_, _⊎_, inl, inr}
+use mathlib.Core.List.{List, [], _∷_, _++_, map}
+use Prim.Native.Nat.{ℕ}
+use mathlib.Core.Bool.{Bool, true, false, not}
+use lib.IntN.{ℤ, pos}
+use lib.Dec.{T}
+use lib.Ieee.{Float}
+use Rattle.f64_helpers.specs.F64.{decimal, zero}
+use Rattle.box_choices.specs.BoxChoices.{chosen}
+use Rattle.box_choices.specs.declared.Choices.{Choices}
+use Rattle.cdl_recurrences.specs.DeadBand.{Related}
+use Rattle.cooling_only_controller_timing.specs.Timing.{fresh-true-delay}
+use Rattle.cooling_only_controller_airflow.specs.Airflow.{alarms}
+use Rattle.cooling_only_controller_airflow.specs.declared.AlarmInput.{AlarmInput}
+use Rattle.cooling_only_controller_airflow.specs.declared.AlarmsState.{AlarmsState}
+use Rattle.cooling_only_controller.specs.declared.ControllerOutput.{ControllerOutput}
+use Rattle.cooling_only_controller.specs.declared.ControllerState.{ControllerState}
+use Rattle.air_box.specs.AirBox.{tick}
+use Rattle.air_box.specs.BenchTick.{bench-tick}
+use Rattle.air_box.specs.Demand1.{AllYes}
+use Rattle.air_box.specs.declared.Tick.{Tick}
+use Rattle.air_box.specs.declared.AirBox.{AirBox}
+use Rattle.air_box.specs.declared.AirBoxStep.{AirBoxStep}
+use Rattle.air_box.specs.declared.Answer.{Answer}
+use Rattle.air_box.specs.declared.Answer.the-variants.{Accepted, Refused}
+use Rattle.nights.specs.Nights.{NightStep, night-of, Along, last-time, Shown, shown, fan, mode, FlowHigh, HeldFor}
+use Rattle.nights.specs.Demand3.{H, FlowHighRule, ExactAlarm, ExactGiven, ThreeIfThree, TwoNights, Demand3}
+use Rattle.nights.specs.AlarmsStage.{tick-with}
+use Rattle.nights.specs.OneReading.{one-reading-alarms}
+
+-- a box that was built with the first reading, and one with the second
+abbrev pub First : AirBox → Type 0
+First box = box .choices .«second_reading» ≡ false
+
+abbrev pub Second : AirBox → Type 0
+Second box = box .choices .«second_reading» ≡ true
+
+-- ---- the first reading is untouched: every tick of such a box, whatever it holds, is what it was
+
+pub record FirstUntouched : Type 0 where
+  pub stage : (s : AlarmsState) (t : Float) (input : AlarmInput) (choices : Choices) → choices .«second_reading» ≡ false
+      → alarms s t input choices ≡ one-reading-alarms s t input choices
+  pub every-tick : (box : AirBox) (k : Tick) → First box → tick box k ≡ tick-with one-reading-alarms box k
+
+-- ---- the second reading is equal to the first but for that alarm and its delay
+
+-- what is left of outputs, of a state, of a box and of a step without the alarm, its delay and the choice of its reading
+abbrev pub output-but : ControllerOutput → ControllerOutput
+output-but output =
+    record {
+      «airflow_setpoint» = output .«airflow_setpoint»;
+      «damper_command» = output .«damper_command»;
+      «adjusted_population_flow» = output .«adjusted_population_flow»;
+      «adjusted_area_flow» = output .«adjusted_area_flow»;
+      «minimum_outdoor_airflow» = output .«minimum_outdoor_airflow»;
+      «zone_temperature_reset_request» = output .«zone_temperature_reset_request»;
+      «zone_pressure_reset_request» = output .«zone_pressure_reset_request»;
+      «low_airflow_alarm» = output .«low_airflow_alarm»;
+      «airflow_sensor_alarm» = pos 0;
+      «leaking_damper_alarm» = output .«leaking_damper_alarm»;
+    }
+
+abbrev pub alarms-but : AlarmsState → AlarmsState
+alarms-but s =
+    record {
+      «fan_armed» = s .«fan_armed»;
+      «setpoint_nonzero» = s .«setpoint_nonzero»;
+      «setpoint_on» = s .«setpoint_on»;
+      «low_half» = s .«low_half»;
+      «low_seventy» = s .«low_seventy»;
+      «low_half_delay» = s .«low_half_delay»;
+      «low_seventy_delay» = s .«low_seventy_delay»;
+      «flow_high» = s .«flow_high»;
+      «sensor_delay» = fresh-true-delay;
+      «damper_closed» = s .«damper_closed»;
+      «leak_delay» = s .«leak_delay»;
+    }
+
+abbrev pub state-but : ControllerState → ControllerState
+state-but s =
+    record {
+      «time_suppression» = s .«time_suppression»;
+      «control_loops» = s .«control_loops»;
+      setpoints = s .setpoints;
+      «zone_states» = s .«zone_states»;
+      dampers = s .dampers;
+      «system_requests» = s .«system_requests»;
+      alarms = alarms-but (s .alarms);
+    }
+
+abbrev pub box-but : AirBox → AirBox
+box-but box =
+    let c = box .choices in
+    record {
+      state = state-but (box .state);
+      «last_time» = box .«last_time»;
+      choices = chosen (c .quiet) (c .«design_minimum_flow») (c .«design_cooling_maximum_flow») false;
+    }
+
+abbrev pub answer-but : Answer → Answer
+answer-but (Accepted output) = Accepted (output-but output)
+answer-but (Refused reason) = Refused reason
+
+abbrev pub step-but : AirBoxStep → AirBoxStep
+step-but s = record { state = box-but (s .state); answer = answer-but (s .answer) }
+
+-- Of a box with the second reading and one with the first that agree in all else: every tick gives both the same answer, nine outputs or the
+-- reason, and leaves them agreeing.
+abbrev pub EqualButThatAlarm : Type 0
+EqualButThatAlarm = (second first : AirBox) (k : Tick) → Second second → First first → box-but second ≡ box-but first
+    → step-but (tick second k) ≡ step-but (tick first k)
+
+-- ---- demand 3 for either reading, from either start
+
+-- at the accepted tick k, before which those of `earlier` were accepted, the fan is off
+abbrev pub FanOff : List Tick → Tick → Type 0
+FanOff earlier k = T (not (fan k))
+
+-- The second reading: the alarm at k is 3 exactly if the mode there is 1, flow is high there, and the fan has been off at every accepted tick
+-- from one at least 600 seconds back, or, in a plain start, from the very first, up to k. Else it is 0.
+pub record SecondExactAlarm (choices : Choices) (earlier : List Tick) (k : Tick) (alarm : ℤ) : Type 0 where
+  pub three : (alarm ≡ pos 3)
+      ↔ ((mode k ≡ pos 1) × FlowHigh (H choices) (earlier ++ (k ∷ [])) × HeldFor FanOff 600 (choices .quiet) (earlier ++ (k ∷ [])) k)
+  pub else-none : (alarm ≡ pos 3) ⊎ (alarm ≡ pos 0)
+
+-- the exact condition, by whether the reading is the second; that of the first stands in Demand3.antt
+abbrev pub ExactAlarmBy : Bool → Choices → List Tick → Tick → ℤ → Type 0
+ExactAlarmBy false choices earlier k alarm = ExactAlarm choices earlier k alarm
+ExactAlarmBy true choices earlier k alarm = SecondExactAlarm choices earlier k alarm
+
+-- as `ExactGiven`, with the condition of the box's reading
+abbrev pub ExactGivenBy : Choices → List Tick → Tick → ControllerOutput ⊎ ℕ → Type 0
+ExactGivenBy choices earlier k (inl output) =
+    AllYes (last-time earlier) k × ExactAlarmBy (choices .«second_reading») choices earlier k (output .«airflow_sensor_alarm»)
+ExactGivenBy choices earlier k (inr number) = ExactGiven choices earlier k (inr number)
+
+pub record EitherReading : Type 0 where
+  pub flow-high-rule : (choices : Choices) → FlowHighRule choices
+  -- at every tick of every night of every box what is given is right
+  pub every-night-exactly : (choices : Choices) (night : List Tick)
+      → Along (λ (earlier : List Tick) (s : NightStep). ExactGivenBy choices earlier (s .ticked) (s .given)) [] (night-of choices night)
+  -- two nights of boxes with one reading, one start and equal cooling maxima
+  pub two-nights : (quiet second-reading : Bool) (minimum other-minimum maximum : Float)
+      → TwoNights (chosen quiet minimum maximum second-reading) (chosen quiet other-minimum maximum second-reading)
+
+-- ---- wherever the first reading raises the alarm, the second does as well
+
+-- both accept the tick, and the second shows alarm 3 if the first does; or both give the same number
+abbrev pub SecondToo : ControllerOutput ⊎ ℕ → ControllerOutput ⊎ ℕ → Type 0
+SecondToo (inl first) (inl second) = ThreeIfThree first second
+SecondToo (inl first) (inr number) = ⊥
+SecondToo (inr number) (inl second) = ⊥
+SecondToo (inr number) (inr second-number) = number ≡ second-number
+
+-- at every tick of every night, refused ones among them, of two boxes that are built alike but for the reading
+abbrev pub FirstImpliesSecond : Type 0
+FirstImpliesSecond = (quiet : Bool) (minimum maximum : Float) (night : List Tick)
+    → Related (λ (a b : NightStep). SecondToo (a .given) (b .given))
+    (night-of (chosen quiet minimum maximum false) night) (night-of (chosen quiet minimum maximum true) night)
+
+-- ---- the smallest night that tells the two apart: two ticks with the fan off, and flow at the second alone
+
+abbrev pub flow-comes : List Tick
+flow-comes = bench-tick zero (pos 0) (pos 0) false ∷ bench-tick (decimal 2 10) (pos 0) (pos 0) false ∷ []
+
+-- the sensor alarm at each accepted tick of a box of the usual design flows
+abbrev pub alarms-along : Bool → Bool → List Tick → List ℤ
+alarms-along quiet second-reading night =
+    map (λ (s : Shown). s .output .«airflow_sensor_alarm»)
+    (shown (night-of (chosen quiet (decimal 5 10) (decimal 15 10) second-reading) night))
+
+pub record Apart : Type 0 where
+  pub first : alarms-along false false flow-comes ≡ pos 0 ∷ pos 0 ∷ []
+  pub second : alarms-along false true flow-comes ≡ pos 0 ∷ pos 3 ∷ []
+  -- with a quiet start the second waits too
+  pub quiet-second : alarms-along true true flow-comes ≡ pos 0 ∷ pos 0 ∷ []
+
+-- ---- N12
+pub record SecondReading : Type 0 where
+  pub first-untouched : FirstUntouched
+  pub equal-but-that-alarm : EqualButThatAlarm
+  pub either-reading : EitherReading
+  -- demand 3, as it stands in Demand3.antt, is the case of a plain start and the first reading
+  pub demand-3-is-a-case : EitherReading → Demand3
+  pub first-implies-second : FirstImpliesSecond
+  pub apart : Apart
