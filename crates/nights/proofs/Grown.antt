@@ -75,10 +75,10 @@ shown-after choices h (k ∷ ks) =
 -- ---- two boxes along one night: they have had the same ticks, and what was chosen when they were built decides no question
 module _ (one other : Choices) (R : NightStep → NightStep → Type 0)
     (accepted : (h : List Tick) (k : Tick) → AllAccepted (k ∷ h)
-        → R (record { ticked = k; given = inl (controller-step-of (grown one h) k .output); box = grown one (k ∷ h) })
-        (record { ticked = k; given = inl (controller-step-of (grown other h) k .output); box = grown other (k ∷ h) }))
+    → R (record { ticked = k; given = inl (controller-step-of (grown one h) k .output); box = grown one (k ∷ h) })
+    (record { ticked = k; given = inl (controller-step-of (grown other h) k .output); box = grown other (k ∷ h) }))
     (refused : (h : List Tick) (k : Tick) (reason : Refusal)
-        → R (record { ticked = k; given = inr (refusal-number reason); box = grown one h }) (record { ticked = k; given = inr (refusal-number reason); box = grown other h })) where
+    → R (record { ticked = k; given = inr (refusal-number reason); box = grown one h }) (record { ticked = k; given = inr (refusal-number reason); box = grown other h })) where
   abbrev Both : Tick → List Tick → AirBoxStep → AirBoxStep → Type 0
   Both k ks a b = Related R (step-by k a ∷ steps (a .state) ks) (step-by k b ∷ steps (b .state) ks)
 
