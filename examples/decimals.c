@@ -1,8 +1,9 @@
 /* Lines for the program `ticks` from decimals, and its answers back in decimals, for a person at a terminal.
    Each line of input has fourteen fields, joined by blanks, tabs or commas: start (plain, quiet, or next for the box of the line before), t, zone,
    cooling setpoint, heating setpoint, CO2 setpoint, CO2, discharge air, supply air, flow, mode, airflow override, damper override, and the status:
-   1 for windows closed, 2 for people in the zone and 4 for the fan on, summed. A line of three fields builds a box with design flows of its own:
-   plain or quiet, the design minimum, the cooling maximum. Empty lines and lines that begin with # are left out.
+   1 for windows closed, 2 for people in the zone and 4 for the fan on, summed. A line of three or four fields builds a box with design flows of its own:
+   plain or quiet, the design minimum, the cooling maximum and, where it is named, the reading of the airflow sensor alarm: first or second.
+   Empty lines and lines that begin with # are left out.
    Build: gcc -O2 examples/decimals.c -o target/decimals
    Run:   target/decimals < my_ticks.txt | target/bin/ticks | target/decimals --answers */
 #define _POSIX_C_SOURCE 200809L
@@ -13,14 +14,19 @@
 #include <sys/types.h>
 #include "output.h"
 
-enum { FIELDS = 14, BUILDING_FIELDS = 3, FIRST_INTEGER = 10, STATUS = 13, REALS = 5 };
+enum { FIELDS = 14, SIZE_FIELDS = 3, BUILDING_FIELDS = 4, READING = 3, FIRST_INTEGER = 10, STATUS = 13, REALS = 5 };
 static const char between[] = " \t,\r";
-static const char *const BUILDING_NAMES[BUILDING_FIELDS] = {"start of a box to be built", "design minimum", "cooling maximum"};
+static const char *const BUILDING_NAMES[BUILDING_FIELDS] = {"start of a box to be built", "design minimum", "cooling maximum", "reading"};
 static const char *const NAMES[FIELDS] = {"start", "t", "zone", "cooling setpoint", "heating setpoint", "CO2 setpoint", "CO2", "discharge air",
                                           "supply air", "flow", "mode", "airflow override", "damper override", "status"};
 
+/* 1 or 2 for the text that is `one` or `two`, else 0. */
+static uint64_t which(const char *text, const char *one, const char *two) {
+    return strcmp(text, one) == 0 ? 1 : strcmp(text, two) == 0 ? 2 : 0;
+}
+
 static bool start_word(const char *text, uint64_t *word) {
-    *word = strcmp(text, "plain") == 0 ? 1 : strcmp(text, "quiet") == 0 ? 2 : 0;
+    *word = which(text, "plain", "quiet");
     return *word != 0 || strcmp(text, "next") == 0;
 }
 
@@ -41,10 +47,16 @@ static bool integer(const char *text, int64_t least, int64_t most, uint64_t *wor
     return *text != '\0' && *end == '\0' && errno == 0 && n >= least && n <= most;
 }
 
-static bool field(int i, const char *text, uint64_t *word) {
+static bool tick_field(int i, const char *text, uint64_t *word) {
     if (i == 0) return start_word(text, word);
     if (i < FIRST_INTEGER) return real(text, word);
     return i == STATUS ? integer(text, 0, 7, word) : integer(text, INT64_MIN, INT64_MAX, word);
+}
+
+static bool building_field(int i, const char *text, uint64_t *word) {
+    if (i != 0 && i != READING) return real(text, word);
+    *word = i == 0 ? which(text, "plain", "quiet") : which(text, "first", "second");
+    return *word != 0;
 }
 
 /* The fields of a line, as far as a tick's go and one more, and how many they are. */
@@ -58,12 +70,14 @@ static int split(char *text, char *fields[FIELDS + 1]) {
 /* The words of a line of decimals, and how many they are: a tick's or a building's; or 0, and what is wrong with it on standard error. */
 static int words(char *text, unsigned long number, uint64_t word[FIELDS]) {
     char *fields[FIELDS + 1];
-    int count = split(text, fields), wanted = count == BUILDING_FIELDS ? BUILDING_FIELDS : FIELDS;
-    const char *const *names = count == BUILDING_FIELDS ? BUILDING_NAMES : NAMES;
+    int count = split(text, fields);
+    bool building = count == SIZE_FIELDS || count == BUILDING_FIELDS;
+    int wanted = building ? count : FIELDS;
+    const char *const *names = building ? BUILDING_NAMES : NAMES;
+    bool (*field)(int, const char *, uint64_t *) = building ? building_field : tick_field;
     for (int i = 0; i < wanted; i++) {
         if (i == count) fprintf(stderr, "decimals: line %lu: the %s is missing\n", number, names[i]);
-        else if (!field(i, fields[i], &word[i]) || (i == 0 && wanted != FIELDS && word[i] == 0))
-            fprintf(stderr, "decimals: line %lu: '%s' is no %s\n", number, fields[i], names[i]);
+        else if (!field(i, fields[i], &word[i])) fprintf(stderr, "decimals: line %lu: '%s' is no %s\n", number, fields[i], names[i]);
         else continue;
         return 0;
     }

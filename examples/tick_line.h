@@ -1,4 +1,4 @@
-/* A line in the format of the program `ticks`: fields of sixteen lowercase hex digits, joined by one blank. Fourteen are a tick, three a building. */
+/* A line in the format of the program `ticks`: fields of sixteen lowercase hex digits, joined by one blank. Fourteen are a tick, three or four a building. */
 #ifndef TICK_LINE_H
 #define TICK_LINE_H
 #include <stdio.h>
@@ -6,7 +6,7 @@
 #include <sys/types.h>
 #include "air_box.h"
 
-enum { TICK_FIELDS = 14, BUILDING_FIELDS = 3, FIELD_DIGITS = 16 };
+enum { TICK_FIELDS = 14, SIZE_FIELDS = 3, BUILDING_FIELDS = 4, FIELD_DIGITS = 16 };
 typedef enum { END_OF_INPUT, READ_FAILED, MALFORMED, A_TICK, A_BUILDING } LineKind;
 
 /* What a line says: of a tick its readings, of a building the choices. */
@@ -35,7 +35,7 @@ static bool fields_of(const char *text, ssize_t n, int count, uint64_t *w) {
     return true;
 }
 
-/* A tick's line. A start word of 1 or 2 makes the box afresh, plain or quiet, with the usual design flows. */
+/* A tick's line. A start word of 1 or 2 makes the box afresh, plain or quiet, with the usual design flows and the first reading. */
 static bool is_tick(const char *text, ssize_t n, AirBox *box, AirBoxTick *tick) {
     uint64_t w[TICK_FIELDS];
     if (!fields_of(text, n, TICK_FIELDS, w) || w[0] > 2 || w[13] > 7) return false;
@@ -47,13 +47,15 @@ static bool is_tick(const char *text, ssize_t n, AirBox *box, AirBoxTick *tick) 
     return true;
 }
 
-/* A building line. It is for the caller to build the box. */
+/* A building line: a start and two design flows, and the reading, 1 or 2, which is the first where it is left out. It is for the caller to build the box. */
 static bool is_building(const char *text, ssize_t n, AirBoxChoices *choices) {
     uint64_t w[BUILDING_FIELDS];
-    if (!fields_of(text, n, BUILDING_FIELDS, w) || (w[0] != 1 && w[0] != 2)) return false;
+    if (fields_of(text, n, SIZE_FIELDS, w)) w[3] = 1;
+    else if (!fields_of(text, n, BUILDING_FIELDS, w)) return false;
+    if ((w[0] != 1 && w[0] != 2) || (w[3] != 1 && w[3] != 2)) return false;
     double x[BUILDING_FIELDS];
     memcpy(x, w, sizeof x);
-    *choices = (AirBoxChoices){w[0] == 2, x[1], x[2]};
+    *choices = (AirBoxChoices){w[0] == 2, x[1], x[2], w[3] == 2};
     return true;
 }
 

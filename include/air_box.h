@@ -13,7 +13,7 @@
            lost = 0;
        } else if (++lost == 3) {                             // box and clock have lost each other: the box is built afresh
            lost = 0;
-           air_box_build(&box, box.last.choices);            // with the start and the size that it has; never refused
+           air_box_build(&box, box.last.choices);            // with all that it was built with; never refused
            number = air_box_tick(&box, &tick, &output);      // this tick is its first
        }
        if (number != AIR_BOX_ACCEPTED) report(number);       // `output` still holds what the last accepted tick gave
@@ -35,7 +35,7 @@
    Until its first accepted tick the outputs are what the caller put there. The desk code does not show refusals: report the number beside it.
 
    Plain or quiet. A real box takes the quiet start. With a plain start a fault that seems to stand at the first tick counts as having stood for long:
-   in occupied mode a first reading of flow with the fan off shows code 23 at once, and low airflow 12 or 13; in any mode a leak 34. With a quiet start
+   in occupied mode flow that is measured there with the fan off shows code 23 at once, and low airflow 12 or 13; in any mode a leak 34. With a quiet start
    every alarm, and every request above 1, waits out its delay first. Eight delays wait so: of the requests those of temperature 2 and 3, 120 seconds
    each, and the damper's for pressure 2 and 3, 60; of the alarms the setpoint's and the two low airflows', 300 each, the sensor's and the leak's, 600
    each. One more, the fan's arming, does not: the low airflow alarm is armed once the fan has been on for 30 minutes, and with either start a fan that
@@ -48,17 +48,27 @@
    Size. A box from air_box_fresh has a design minimum of 0.5 and a cooling maximum of 1.5 cubic metres a second. A box of another size is built with
    its own two flows:
 
-       AirBoxChoices choices = {true, 0.2, 0.6};             // a quiet start, the design minimum, the cooling maximum
+       AirBoxChoices choices = {true, 0.2, 0.6, false};      // a quiet start, the design minimum, the cooling maximum, the first reading
        AirBox box;                                           // what stands there is not read
        uint8_t number = air_box_build(&box, choices);
        if (number != AIR_BOX_BUILT) report(number);          // nothing was written: there is no box to tick
 
    The maximum is from 0.1 to 10.0 and the minimum from 0.0 to the maximum. Both ends belong to a range; what lies outside is refused, and a NaN too. -0.0
-   is a minimum of 0 and is then used as it came. The start and the size stay with the box and never change; they stand in `last.choices`. So a box
-   that is built afresh takes them from there, as above, or from where the caller keeps them: air_box_fresh would make it one of 0.5 and 1.5.
+   is a minimum of 0 and is then used as it came. The start, the size and the reading stay with the box and never change; they stand in `last.choices`. So
+   a box that is built afresh takes them from there, as above, or from where the caller keeps them: air_box_fresh would make it one of 0.5 and 1.5, with
+   the first reading.
    The maximum and the minimum are the flows of overrides 2 and 3. The damper's loop takes setpoint and measured flow as shares of the maximum, and for the
    alarms flow is high above a tenth of it. The dead bands, that of 0.01 below this tenth among them, are the same for every size: at a maximum of 0.1 flow
    that was high stays high until about 0 is measured.
+
+   Reading. The airflow sensor alarm has two readings, of which a box is built with one. In the first, that of the published reference, the flow has been
+   high and the fan off, both at once, for 600 seconds. In the second the fan has been off for 600 seconds and the flow is high now, however short a time.
+   Both show the alarm in occupied mode alone. With a plain start what stands at the very first tick counts as having stood for long: in the first reading
+   flow high with the fan off, in the second the fan off. Nothing else differs: the nine other outputs are the same, and code 23 means the same.
+   Of two boxes that are otherwise built alike and get the same ticks, the one with the second reading shows the alarm wherever the one with the first does
+   (proved), and sometimes where that one does not. Two ticks are enough, with a plain start and in occupied mode: the fan off at both, the flow not high at
+   the first tick and high at the second. The first reading then shows 0, the second 3.
+   air_box_fresh keeps the first reading. So does an initialiser of three values, {true, 0.2, 0.6}, about which compilers warn under -Wextra.
 
    What the archive needs and takes.
    - x86-64 with the System V ABI, as on Linux and the BSDs. No other processor, and not the ABI of Windows. SSE2 is enough.
@@ -115,15 +125,17 @@ extern "C" {
 
 /* ---- What is chosen when a box is built, and stays with it */
 
-/* The start and the size. Airflows in cubic metres a second. */
+/* The start, the size and the reading of the airflow sensor alarm. Airflows in cubic metres a second. */
 typedef struct AirBoxChoices {
     bool quiet;                         /* true: a quiet start; false: a plain one */
     double design_minimum_flow;         /* from 0.0 to the maximum; 0.5 where air_box_fresh built the box */
     double design_cooling_maximum_flow; /* from 0.1 to 10.0; 1.5 there */
+    bool second_reading;                /* true: the second reading of the airflow sensor alarm; false: the first, as there */
 } AirBoxChoices;
-AIR_BOX_ASSERT(sizeof(AirBoxChoices) == 24);
+AIR_BOX_ASSERT(sizeof(AirBoxChoices) == 32);
 AIR_BOX_ASSERT(offsetof(AirBoxChoices, design_minimum_flow) == 8);
 AIR_BOX_ASSERT(offsetof(AirBoxChoices, design_cooling_maximum_flow) == 16);
+AIR_BOX_ASSERT(offsetof(AirBoxChoices, second_reading) == 24);
 
 /* What building a box with choices returns; no tick returns 8. */
 #define AIR_BOX_BUILT 0
@@ -202,7 +214,7 @@ AIR_BOX_ASSERT(offsetof(AirBoxTick, input) == 8);
 /* Alarms. 0 is no alarm; else the number is the alarm's level, of which a smaller one is the more urgent. */
 #define AIR_BOX_LOW_AIRFLOW_BELOW_HALF 2    /* low_airflow_alarm: the flow is below half of its setpoint */
 #define AIR_BOX_LOW_AIRFLOW_BELOW_SEVENTY 3 /* low_airflow_alarm: it is below 70 percent */
-#define AIR_BOX_AIRFLOW_SENSOR 3            /* airflow_sensor_alarm: flow is measured while the fan is off */
+#define AIR_BOX_AIRFLOW_SENSOR 3            /* airflow_sensor_alarm: flow is measured while the fan is off, in either reading */
 #define AIR_BOX_LEAKING_DAMPER 4            /* leaking_damper_alarm: flow is measured while the fan is on and the damper closed */
 
 /* The ten outputs. Airflows in cubic metres a second. A request is a number of requests to the air handler, from 0 to 3, 3 the strongest. */
@@ -461,7 +473,7 @@ typedef struct AirBoxLast {
     AirBoxOptionalTime time;
     AirBoxChoices choices;
 } AirBoxLast;
-AIR_BOX_ASSERT(sizeof(AirBoxLast) == 40);
+AIR_BOX_ASSERT(sizeof(AirBoxLast) == 48);
 AIR_BOX_ASSERT(offsetof(AirBoxLast, choices) == 16);
 
 /* A box. The stages stand in the order in which a tick goes through them. */
@@ -472,7 +484,7 @@ typedef struct AirBox {
     AirBoxAlarms alarms;
     AirBoxLast last;
 } AirBox;
-AIR_BOX_ASSERT(sizeof(AirBox) == 864);
+AIR_BOX_ASSERT(sizeof(AirBox) == 872);
 AIR_BOX_ASSERT(offsetof(AirBox, airflow) == 160);
 AIR_BOX_ASSERT(offsetof(AirBox, system_requests) == 352);
 AIR_BOX_ASSERT(offsetof(AirBox, alarms) == 600);
@@ -480,7 +492,8 @@ AIR_BOX_ASSERT(offsetof(AirBox, last) == 824);
 
 /* ---- The four functions */
 
-/* A box that has had no tick, with a quiet start where `quiet` is true, else a plain one, a design minimum of 0.5 and a cooling maximum of 1.5. */
+/* A box that has had no tick, with a quiet start where `quiet` is true, else a plain one, a design minimum of 0.5, a cooling maximum of 1.5 and the first
+   reading of the airflow sensor alarm. */
 AirBox air_box_fresh(bool quiet);
 
 /* AIR_BOX_BUILT: the box at `box` has had no tick, and has these choices. AIR_BOX_DESIGN_FLOWS_OUT_OF_RANGE: they are refused, and nothing was written.

@@ -6,6 +6,7 @@ use std::process::ExitCode;
 mod answer;
 mod drive;
 mod fields;
+mod reckoning;
 mod stubs;
 mod tick;
 
@@ -24,7 +25,7 @@ fn values(air_box: &AirBox) -> Vec<Value> {
 
 /// A box that has plain starts only.
 fn air_box(fresh: fn() -> Box<dyn Controller>) -> AirBox {
-    AirBox::new(Texts { usual: [fresh; 2], sized: [fresh; 2] })
+    AirBox::new(Texts { usual: [fresh; 2], sized: [fresh; 2], second: [fresh; 2] })
 }
 
 /// Runs to the end or to the first output that differs, which ends the reading as an error.

@@ -1,5 +1,5 @@
 //! `nights [--usual-size] SEED LINES`: prints that many lines of ticks and of buildings, the same ones for the same seed. With the option no
-//! box is built with design flows of its own. `nights --ends` prints the lines of `ends.rs`.
+//! box is built with design flows or a reading of its own. `nights --ends` prints the lines of `ends.rs`.
 
 use std::io::{self, BufWriter, StdoutLock, Write};
 
@@ -10,7 +10,7 @@ mod sizes;
 mod tick;
 
 use dice::Dice;
-use tick::{Building, Flows, LAST_SECOND, Tick, USUAL};
+use tick::{Building, Flows, LAST_SECOND, Line, Tick, USUAL};
 
 /// How the seconds between two ticks are chosen.
 #[derive(Clone, Copy)]
@@ -40,12 +40,14 @@ struct Night {
     life: u64,
     /// The design flows of the box.
     size: Flows,
-    /// Whether boxes of other sizes are built.
-    sizes: bool,
+    /// Whether the box has the second reading.
+    second: bool,
+    /// Whether boxes are built, of other sizes and with either reading.
+    builds: bool,
 }
 
 impl Night {
-    fn new(seed: u64, lines: u64, sizes: bool) -> Night {
+    fn new(seed: u64, lines: u64, builds: bool) -> Night {
         let mut night = Night {
             dice: Dice::new(seed),
             out: BufWriter::with_capacity(1 << 20, io::stdout().lock()),
@@ -56,12 +58,13 @@ impl Night {
             last: None,
             life: 0,
             size: USUAL,
-            sizes: false,
+            second: false,
+            builds: false,
         };
         night.restart();
         // Before any start word the box is a fresh plain one; some seeds begin so.
         night.start = night.dice.below(3);
-        night.sizes = sizes;
+        night.builds = builds;
         night
     }
 
@@ -81,18 +84,31 @@ impl Night {
             _ => self.dice.below(100_000) as f64,
         };
         self.size = USUAL;
-        if self.sizes && self.dice.below(5) < 2 {
-            let flows = sizes::good(&mut self.dice);
-            self.build(Building { start: self.start, flows });
+        self.second = false;
+        if self.builds && self.dice.one_in(2) {
+            let building = self.building(self.start);
+            self.build(&building.line());
         }
     }
 
-    /// Write a building line and follow what it does to the box.
-    fn build(&mut self, building: Building) {
-        self.write(&building.line());
-        if building.refusal() == 0 {
-            self.size = building.flows;
-            self.begin();
+    /// A box that can be built. A third have the second reading, and of these a third the usual size; of the others some name the first.
+    fn building(&mut self, start: u64) -> Building {
+        let reading = self.dice.pick(&[None, None, None, Some(1), Some(2), Some(2)]);
+        let usual = reading == Some(2) && self.dice.one_in(3);
+        let flows = if usual { USUAL } else { sizes::good(&mut self.dice) };
+        Building { start, flows, reading }
+    }
+
+    /// Write a line that may build a box, and follow what it does.
+    fn build(&mut self, line: &[u8]) {
+        self.write(line);
+        match Line::read(line) {
+            Some(Line::Building(building)) if building.refusal() == 0 => {
+                self.size = building.flows;
+                self.second = building.second();
+                self.begin();
+            }
+            _ => {}
         }
     }
 
@@ -106,21 +122,13 @@ impl Night {
     /// A building line between two ticks: most are refused, some malformed, and some build another box.
     fn build_between(&mut self) {
         let start = 1 + self.dice.below(2);
-        match self.dice.below(8) {
-            0 => {
-                let flows = sizes::good(&mut self.dice);
-                self.build(Building { start, flows });
-            }
-            1 => {
-                let flows = sizes::good(&mut self.dice);
-                let line = self.damaged_building(Building { start, flows });
-                self.write(&line);
-            }
-            _ => {
-                let flows = sizes::bad(&mut self.dice);
-                self.build(Building { start, flows });
-            }
-        }
+        let good = self.building(start);
+        let line = match self.dice.below(8) {
+            0 => good.line(),
+            1 => self.damaged_building(good),
+            _ => Building { flows: sizes::bad(&mut self.dice), ..good }.line(),
+        };
+        self.build(&line);
     }
 
     fn write(&mut self, line: &[u8]) {
@@ -145,6 +153,7 @@ impl Night {
         self.write(&tick.line());
         if tick.start > 0 {
             self.size = USUAL;
+            self.second = false;
             self.begin();
         }
         self.start = 0;
@@ -168,7 +177,7 @@ impl Night {
             let line = self.damaged(tick);
             self.write(&line);
         }
-        if self.sizes && self.dice.one_in(100) {
+        if self.builds && self.dice.one_in(100) {
             self.build_between();
         }
         tick.start = self.start;
@@ -230,15 +239,17 @@ impl Night {
         line
     }
 
-    /// A line that is no building, made from one.
+    /// A line that is no building, made from one; but with one of four fields left out it is a building line of three.
     fn damaged_building(&mut self, mut building: Building) -> Vec<u8> {
-        let place = self.dice.below(2) as usize * 17 + 16;
+        let large = 3 + (self.dice.word() >> (1 + self.dice.below(63)));
         let kind = self.dice.below(12);
         match kind {
-            0 => building.start = 0,
-            1 => building.start = 3 + (self.dice.word() >> (1 + self.dice.below(63))),
+            0 => building.start = self.dice.pick(&[0, large]),
+            1 => building.reading = Some(self.dice.pick(&[0, large])),
             _ => {}
         }
+        let blanks = if building.reading.is_some() { 3 } else { 2 };
+        let place = self.dice.below(blanks) as usize * 17 + 16;
         let mut line = building.line();
         self.damage(&mut line, kind, place);
         line

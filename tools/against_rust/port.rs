@@ -64,6 +64,7 @@ impl AirBox {
             quiet: u8::from(building.start == 2),
             design_minimum_flow: building.flows.minimum,
             design_cooling_maximum_flow: building.flows.maximum,
+            second_reading: building.second().into(),
         };
         unsafe { air_box_build(self, choices) }
     }

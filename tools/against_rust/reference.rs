@@ -4,13 +4,14 @@ use std::io::{self, BufWriter, Write};
 
 mod answer;
 mod fields;
+mod reckoning;
 mod stubs;
 mod tick;
 
-use answer::{AirBox, Answer, Texts};
+use answer::{AirBox, Answer, texts};
 use tick::Line;
 
-// Written by the build: `mod oracle`, and the modules around the published files, as they are and sized, plain and quiet.
+// Written by the build: `mod oracle`, and the modules around the published files, as they are, sized and with the second reading, plain and quiet.
 include!(env!("PUBLISHED_MODULES"));
 
 fn refused(number: usize, line: &mut Vec<u8>) {
@@ -33,7 +34,7 @@ fn print(answer: Result<Answer, usize>, line: &mut Vec<u8>) {
 
 fn main() -> io::Result<()> {
     let mut output = BufWriter::with_capacity(1 << 20, io::stdout().lock());
-    let mut air_box = AirBox::new(Texts { usual: [plain::fresh, quiet::fresh], sized: [sized::fresh, sized_quiet::fresh] });
+    let mut air_box = AirBox::new(texts!(plain, quiet, sized, sized_quiet, second, second_quiet));
     let mut answer = Vec::new();
     tick::each_line(|line| {
         match Line::read(line) {

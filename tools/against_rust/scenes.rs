@@ -39,6 +39,9 @@ pub fn play(night: &mut Night) {
     if night.dice.one_in(2) {
         night.now = calm(night.size);
     }
+    if night.builds && night.dice.one_in(if night.second { 3 } else { 12 }) {
+        return late_flow(night);
+    }
     match night.dice.below(19) {
         0 | 1 => sensor(night),
         2 | 3 => leak(night),
@@ -84,6 +87,74 @@ fn sensor(night: &mut Night) {
             now.status ^= dice.pick(&[0, 0, FAN]);
         }
     });
+}
+
+/// The fan stops, or is off at a first tick, without high flow; the flow becomes high about ten minutes later, or now and then before. This is what
+/// the two readings of the sensor alarm see differently.
+fn late_flow(night: &mut Night) {
+    night.now.mode = 1;
+    for _ in 0..2 {
+        if night.last.is_some() || night.dice.one_in(4) {
+            night.now.status |= FAN;
+            let step = night.dice.pick(&[0.0, 1.0, 60.0]);
+            night.step(step);
+        }
+        night.now.status &= !FAN;
+        night.now.flow = flow_not_high(night);
+        let step = night.dice.pick(&[0.0, 1.0, 60.0, 240.0]);
+        night.step(step);
+        let wait = night.dice.pick(&[0.0, 60.0, 598.0, 599.0, 600.0, 601.0]);
+        wait_for_flow(night, wait);
+        for _ in 0..3 {
+            night.now.flow = flow_high(night);
+            night.step(1.0);
+        }
+        come_and_go(night);
+    }
+}
+
+fn flow_not_high(night: &mut Night) -> f64 {
+    let high = sizes::high(night.size);
+    night.dice.pick(&[0.0, high - 0.01, (high - 0.01).next_down(), -0.1])
+}
+
+fn flow_high(night: &mut Night) -> f64 {
+    night.dice.pick(&[sizes::high(night.size).next_up(), sizes::scaled(night.size, 0.3), 10.0])
+}
+
+/// So many seconds with the fan off; in some of these waits the flow is high for a while.
+fn wait_for_flow(night: &mut Night, seconds: f64) {
+    let early = night.dice.one_in(3);
+    let mut gone = 0.0;
+    while gone < seconds {
+        let stride: f64 = night.dice.pick(&[60.0, 120.0, 240.0, 240.0]);
+        let step = stride.min(seconds - gone);
+        if early {
+            night.now.flow = if night.dice.one_in(2) { flow_high(night) } else { flow_not_high(night) };
+        }
+        night.step(step);
+        gone += step;
+    }
+}
+
+/// Flow out of its dead band and back, another mode, the fan on for a tick.
+fn come_and_go(night: &mut Night) {
+    for _ in 0..6 {
+        let high = sizes::high(night.size);
+        night.now.flow = match night.dice.below(4) {
+            0 => night.dice.beside_one_of(&[high, high - 0.01, sizes::kept_high(night.size)]),
+            1 => flow_not_high(night),
+            _ => flow_high(night),
+        };
+        night.now.mode = night.dice.pick(&[1, 1, 1, 2]);
+        night.now.status &= !FAN;
+        if night.dice.one_in(12) {
+            night.now.status |= FAN;
+        }
+        let step = night.dice.pick(&[0.0, 1.0, 60.0]);
+        night.step(step);
+    }
+    night.now.mode = 1;
 }
 
 /// Fan on, damper shut by its override and flow high.

@@ -6,6 +6,7 @@ use std::{env, fs, hint::black_box, time::Instant};
 mod answer;
 mod fields;
 mod port;
+mod reckoning;
 mod stubs;
 mod tick;
 

@@ -7,14 +7,15 @@ mod answer;
 mod drive;
 mod fields;
 mod port;
+mod reckoning;
 mod stubs;
 mod tick;
 
-use answer::{AirBox, Answer, Texts};
+use answer::{AirBox, Answer, texts};
 use fields::{Fields, Pairs, Place, Value};
 use tick::{Building, Line, Tick, USUAL};
 
-// Written by the build: `mod oracle`, and the modules around the published files, as they are and sized, plain and quiet.
+// Written by the build: `mod oracle`, and the modules around the published files, as they are, sized and with the second reading, plain and quiet.
 include!(env!("PUBLISHED_MODULES"));
 
 /// The path of a field of the port's record as the Rust has it: the port groups four of the Rust's stages under one name.
@@ -33,6 +34,8 @@ struct Both {
     accepted: [u64; 2],
     /// Those of them that boxes of other sizes took.
     sized: u64,
+    /// Those of them that boxes with the second reading took.
+    second: u64,
     /// Buildings that were refused.
     refused: u64,
 }
@@ -44,7 +47,7 @@ fn same_number(port: u8, rust: usize) -> Option<String> {
 
 impl Both {
     fn new() -> Result<Both, String> {
-        let rust = AirBox::new(Texts { usual: [plain::fresh, quiet::fresh], sized: [sized::fresh, sized_quiet::fresh] });
+        let rust = AirBox::new(texts!(plain, quiet, sized, sized_quiet, second, second_quiet));
         let port_paths = fields::places::<port::AirBox>().iter().map(rust_path).collect();
         Ok(Both {
             port: port::AirBox::fresh(false),
@@ -54,6 +57,7 @@ impl Both {
             rust_values: Vec::new(),
             accepted: [0; 2],
             sized: 0,
+            second: 0,
             refused: 0,
         })
     }
@@ -102,6 +106,7 @@ impl Both {
         let refusal = self.rust.tick(tick).err().unwrap_or(0);
         self.accepted[usize::from(self.rust.quiet)] += u64::from(number == 0);
         self.sized += u64::from(number == 0 && self.rust.flows != USUAL);
+        self.second += u64::from(number == 0 && self.rust.second());
         same_number(number, refusal).or_else(|| self.difference())
     }
 
@@ -138,9 +143,10 @@ impl Both {
 fn run(lines: u64) -> Result<String, String> {
     let mut both = Both::new()?;
     drive::each_line(lines, |line| both.take(line))?;
-    let Both { accepted: [plain, quiet], sized, refused, .. } = both;
-    let counts = format!("accepted {plain} plain, {quiet} quiet, {sized} of them of other sizes; {refused} buildings refused, no byte written");
-    if [plain, quiet, sized, refused].contains(&0) {
+    let Both { accepted: [plain, quiet], sized, second, refused, .. } = both;
+    let accepted = format!("accepted {plain} plain, {quiet} quiet, {sized} of them of other sizes, {second} with the second reading");
+    let counts = format!("{accepted}; {refused} buildings refused, no byte written");
+    if [plain, quiet, sized, second, refused].contains(&0) {
         return Err(format!("{counts}: too few to compare"));
     }
     both.flip_every_bit()?;

@@ -1,14 +1,16 @@
 //! `tally [--whole] LINES ANSWERS [PORT]`: counts what the answers visit, for plain and for quiet
-//! boxes, and what boxes of other sizes than the usual one visit. With a third file it also says
-//! where that one first differs from the answers. With `--whole` it fails where something of the
-//! table was never visited.
+//! boxes, what boxes of other sizes than the usual one visit, and the sensor alarm of boxes with the
+//! second reading. With a third file it also says where that one first differs from the answers. With
+//! `--whole` it fails where something of the table was never visited.
 
 use std::fs::File;
 use std::io::{self, BufRead, BufReader};
 use std::process::ExitCode;
 
+mod reckoning;
 mod tick;
 
+use reckoning::Reckoning;
 use tick::{Building, Flows, Line, Tick, USUAL};
 
 /// A row group of the table; `open` groups have a last row for all other numbers.
@@ -25,7 +27,10 @@ const fn group(name: &'static str, values: &'static [i64], open: bool) -> Group 
 const REFUSED: usize = 8;
 /// The first of the groups for boxes of other sizes, which are counted in the groups above as well.
 const SIZED: usize = 13;
-const GROUPS: [Group; 18] = [
+/// The first of the two groups for boxes with the second reading: their sensor alarm; and, where it
+/// shows, what a box with the first reading would show.
+const SECOND: usize = 18;
+const GROUPS: [Group; 20] = [
     group("temperature request", &[0, 1, 2, 3], false),
     group("pressure request", &[0, 1, 2, 3], false),
     group("low airflow", &[0, 2, 3], false),
@@ -44,6 +49,8 @@ const GROUPS: [Group; 18] = [
     group("other size: sensor", &[0, 3], false),
     group("other size: leak", &[0, 4], false),
     group("other size: override", &[1, 2, 3], true),
+    group("second reading: sensor", &[0, 3], false),
+    group("second 3 where the first is", &[0, 3], false),
 ];
 
 /// Counts of each row, the last one of a group for other numbers; column 0 plain, 1 quiet.
@@ -54,10 +61,12 @@ struct Table {
     /// Accepted ticks of boxes of other sizes.
     sized: [u64; 2],
     malformed: u64,
-    /// Of the box: its column, its design flows and its last accepted time.
+    /// Of the box: its column, its design flows, its last accepted time and, where it has the second
+    /// reading, what it would show with the first.
     quiet: usize,
     flows: Flows,
     last: Option<f64>,
+    first: Option<Reckoning>,
 }
 
 impl Table {
@@ -74,6 +83,7 @@ impl Table {
             quiet: 0,
             flows: USUAL,
             last: None,
+            first: None,
         }
     }
 
@@ -95,6 +105,7 @@ impl Table {
         self.quiet = start as usize - 1;
         self.flows = flows;
         self.last = None;
+        self.first = None;
     }
 
     fn take(&mut self, line: &[u8], answer: &[u8]) {
@@ -110,6 +121,8 @@ impl Table {
     fn take_building(&mut self, building: &Building, words: &[&str]) {
         if words[0] == "built" {
             self.begin(building.start, building.flows);
+            let first = || Reckoning::new(false, self.quiet == 1, building.flows.maximum);
+            self.first = building.second().then(first);
             self.built[self.quiet] += 1;
         } else {
             self.count_in(building.start as usize - 1, REFUSED, number(words, 1));
@@ -147,6 +160,16 @@ impl Table {
                 self.count(SIZED + output, number(6 + output));
             }
             self.count(SIZED + 4, tick.airflow);
+        }
+        self.take_reading(tick, number(8));
+    }
+
+    /// Count the sensor alarm of a box with the second reading.
+    fn take_reading(&mut self, tick: &Tick, second: i64) {
+        let Some(first) = self.first.as_mut().map(|first| first.alarm(tick)) else { return };
+        self.count(SECOND, second);
+        if second == 3 {
+            self.count(SECOND + 1, first);
         }
     }
 

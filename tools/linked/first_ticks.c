@@ -111,12 +111,13 @@ static AirBoxTick first_tick(unsigned long n) {
                                         (int64_t)(choices >> 16 & 7), (int64_t)(choices >> 24 & 7), choices & 4}};
 }
 
-/* The nth box: every other one has a quiet start, and of each start every other one a size of its own. Whether it was built. */
+/* The nth box: every other one has a quiet start, of each start every other one a size of its own, and of those every other one the second reading. Whether
+   it was built. */
 static bool built(unsigned long n, AirBox *box) {
     *box = air_box_fresh(n & 1);
     if ((n & 2) == 0) return true;
     double maximum = between(0.1, 10);
-    AirBoxChoices choices = {n & 1, between(0, maximum), maximum};
+    AirBoxChoices choices = {n & 1, between(0, maximum), maximum, n & 4};
     return air_box_build(box, choices) == AIR_BOX_BUILT;
 }
 

@@ -21,14 +21,23 @@ enum Line {
 fn read(line: &[u8]) -> Option<Line> {
     let fields: Option<Vec<u64>> = line.split(|&c| c == b' ').map(word).collect();
     match fields?[..] {
-        [start @ 1..=2, minimum, maximum] => Some(Line::Building(Choices {
-            quiet: start == 2,
-            design_minimum_flow: f64::from_bits(minimum),
-            design_cooling_maximum_flow: f64::from_bits(maximum),
-        })),
+        [start @ 1..=2, minimum, maximum] => Some(building([start, minimum, maximum, 1])),
+        [start @ 1..=2, minimum, maximum, reading @ 1..=2] => {
+            Some(building([start, minimum, maximum, reading]))
+        }
         ref words @ [0..=2, .., 0..=7] => words.try_into().ok().map(Line::Tick),
         _ => None,
     }
+}
+
+/// The choices of a building line, whose start and reading are 1 or 2. A line that names no reading has the first.
+fn building([start, minimum, maximum, reading]: [u64; 4]) -> Line {
+    Line::Building(Choices {
+        quiet: start == 2,
+        design_minimum_flow: f64::from_bits(minimum),
+        design_cooling_maximum_flow: f64::from_bits(maximum),
+        second_reading: reading == 2,
+    })
 }
 
 fn tick_of(words: &[u64; 14]) -> Tick {

@@ -89,7 +89,7 @@
 //! ```
 //! use air_box::{AirBox, BuildRefusal, Choices};
 //!
-//! let choices = Choices { quiet: true, design_minimum_flow: 0.2, design_cooling_maximum_flow: 0.6 };
+//! let choices = Choices { design_minimum_flow: 0.2, design_cooling_maximum_flow: 0.6, ..Choices::usual(true) };
 //! let air_box = AirBox::build(choices)?;
 //! assert_eq!(air_box.afresh().choices(), choices);
 //! let too_large = Choices { design_cooling_maximum_flow: 12.0, ..choices };
@@ -99,6 +99,22 @@
 //!
 //! The maximum and the minimum are the flows of overrides 2 and 3. The damper's loop takes setpoint and measured flow as shares of the maximum, and for the
 //! alarms flow is high above a tenth of it.
+//!
+//! # Reading
+//!
+//! The airflow sensor alarm has two readings, of which a box is built with one, and keeps it. In the first, that of the published reference, the flow has
+//! been high and the fan off, both at once, for 600 seconds. In the second the fan has been off for 600 seconds and the flow is high now, however short a
+//! time. Both show the alarm in occupied mode alone, and with a plain start what stands at the very first tick counts as having stood for long. Nothing else
+//! differs, and the second shows the alarm wherever the first does. A box has the first unless the second is named:
+//!
+//! ```
+//! use air_box::{AirBox, BuildRefusal, Choices};
+//!
+//! let air_box = AirBox::build(Choices { second_reading: true, ..Choices::usual(true) })?;
+//! assert!(air_box.afresh().choices().second_reading);
+//! assert!(!AirBox::quiet().choices().second_reading);
+//! # Ok::<(), BuildRefusal>(())
+//! ```
 //!
 //! # What it needs
 //!
@@ -121,6 +137,20 @@ pub struct Choices {
     pub design_minimum_flow: f64,
     /// From 0.1 to 10.0; 1.5 where none was chosen.
     pub design_cooling_maximum_flow: f64,
+    /// True: the second reading of the airflow sensor alarm. False: the first, as where none was chosen.
+    pub second_reading: bool,
+}
+
+impl Choices {
+    /// Those of a box for which only the start is chosen: a design minimum of 0.5, a cooling maximum of 1.5 and the first reading.
+    pub const fn usual(quiet: bool) -> Choices {
+        Choices {
+            quiet,
+            design_minimum_flow: 0.5,
+            design_cooling_maximum_flow: 1.5,
+            second_reading: false,
+        }
+    }
 }
 
 /// Why a box was not built, with its number. The ends of a range belong to it.
@@ -267,16 +297,17 @@ struct Record {
 }
 
 const _: () =
-    assert!(size_of::<Record>() == 864 && size_of::<Tick>() == 112 && size_of::<Output>() == 80);
+    assert!(size_of::<Record>() == 872 && size_of::<Tick>() == 112 && size_of::<Output>() == 80);
 const _: () = assert!(
     offset_of!(Record, last) == 824
         && offset_of!(Last, time) == 8
         && offset_of!(Last, choices) == 16
 );
 const _: () = assert!(
-    size_of::<Choices>() == 24
+    size_of::<Choices>() == 32
         && offset_of!(Choices, design_minimum_flow) == 8
         && offset_of!(Choices, design_cooling_maximum_flow) == 16
+        && offset_of!(Choices, second_reading) == 24
 );
 
 extern "C" {
@@ -311,12 +342,12 @@ impl AirBox {
         self.0.last.choices
     }
 
-    /// A box that has had no tick, with a quiet start: the one that a real box takes. Its design minimum is 0.5, its cooling maximum 1.5.
+    /// A box that has had no tick, with a quiet start: the one that a real box takes. Else it has the usual choices.
     pub fn quiet() -> AirBox {
         AirBox(unsafe { air_box_fresh(true) })
     }
 
-    /// A box that has had no tick, with a plain start and the same design flows.
+    /// A box that has had no tick, with a plain start and else the usual choices.
     pub fn plain() -> AirBox {
         AirBox(unsafe { air_box_fresh(false) })
     }

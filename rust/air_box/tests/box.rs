@@ -1,7 +1,7 @@
 //! What a user of the wrapper relies on: refusals change nothing and say why, a box past its time is built afresh, the starts differ, sizes and their
-//! ranges, the desk codes.
+//! ranges, the two readings, the desk codes.
 
-use air_box::{desk_code, AirBox, BuildRefusal, Choices, Input, Refusal, Tick};
+use air_box::{desk_code, AirBox, BuildRefusal, Choices, Input, Output, Refusal, Tick};
 
 fn at(t: f64) -> Tick {
     Tick {
@@ -27,9 +27,9 @@ fn at(t: f64) -> Tick {
 
 fn sized(design_minimum_flow: f64, design_cooling_maximum_flow: f64) -> Choices {
     Choices {
-        quiet: false,
         design_minimum_flow,
         design_cooling_maximum_flow,
+        ..Choices::usual(false)
     }
 }
 
@@ -90,16 +90,16 @@ fn overrides_give_the_design_flows_as_they_came() {
 
 #[test]
 fn a_box_built_without_design_flows_has_the_usual_ones() {
-    let usual = sized(0.5, 1.5);
-    assert_eq!(AirBox::plain().choices(), usual);
-    let quiet = AirBox::quiet().choices();
-    assert_eq!(
+    let usual = |quiet: bool| Choices {
         quiet,
-        Choices {
-            quiet: true,
-            ..usual
-        }
-    );
+        design_minimum_flow: 0.5,
+        design_cooling_maximum_flow: 1.5,
+        second_reading: false,
+    };
+    assert_eq!(AirBox::plain().choices(), usual(false));
+    let quiet = AirBox::quiet().choices();
+    assert_eq!(quiet, usual(true));
+    assert_eq!([false, true].map(Choices::usual), [false, true].map(usual));
     let (mut built, mut fresh) = (AirBox::build(quiet).expect("usual"), AirBox::quiet());
     for minute in 0..60 {
         let mut tick = at(f64::from(minute) * 60.0);
@@ -123,6 +123,86 @@ fn the_size_stays_with_the_box() {
     air_box = air_box.afresh();
     let output = air_box.tick(&at(300.0)).expect("accepted");
     assert_eq!((output.airflow_setpoint, air_box.choices()), (0.6, choices));
+}
+
+/// What boxes of this start, with the first and with the second reading, give for the same ticks with the fan off: a time, a mode and a flow each.
+fn both_readings<const N: usize>(quiet: bool, ticks: [(f64, i64, f64); N]) -> [[Output; N]; 2] {
+    [false, true].map(|second_reading| {
+        let choices = Choices {
+            second_reading,
+            ..Choices::usual(quiet)
+        };
+        let mut air_box = AirBox::build(choices).expect("the usual size");
+        ticks.map(|(t, mode, flow)| {
+            let mut tick = at(t);
+            tick.input.operating_mode = mode;
+            tick.input.discharge_airflow = flow;
+            tick.input.supply_fan_status = false;
+            air_box.tick(&tick).expect("accepted")
+        })
+    })
+}
+
+fn sensor_alarms<const N: usize>(outputs: [Output; N]) -> [i64; N] {
+    outputs.map(|output| output.airflow_sensor_alarm)
+}
+
+#[test]
+fn two_ticks_tell_the_readings_apart() {
+    let [first, second] = both_readings(false, [(0.0, 1, 0.0), (60.0, 1, 0.3)]);
+    assert_eq!(sensor_alarms(first), [0, 0]);
+    assert_eq!(sensor_alarms(second), [0, 3]);
+    assert_eq!(second[1].desk_code(), 23);
+    for (first, mut second) in first.into_iter().zip(second) {
+        second.airflow_sensor_alarm = first.airflow_sensor_alarm;
+        assert_eq!(first, second);
+    }
+}
+
+#[test]
+fn the_second_reading_asks_for_the_flow_and_the_mode_of_now() {
+    let ticks = [
+        (0.0, 1, 0.3),
+        (60.0, 2, 0.3),
+        (120.0, 1, 0.1),
+        (180.0, 1, 0.3),
+    ];
+    let [first, second] = both_readings(false, ticks);
+    assert_eq!(sensor_alarms(first), [3, 0, 0, 0]);
+    assert_eq!(sensor_alarms(second), [3, 0, 0, 3]);
+}
+
+#[test]
+fn with_a_quiet_start_the_second_reading_waits_from_the_first_tick() {
+    let ticks = [
+        (0.0, 1, 0.0),
+        (240.0, 1, 0.3),
+        (480.0, 1, 0.3),
+        (599.0, 1, 0.3),
+        (600.0, 1, 0.3),
+        (839.0, 1, 0.3),
+        (840.0, 1, 0.3),
+    ];
+    let [first, second] = both_readings(true, ticks);
+    assert_eq!(sensor_alarms(first), [0, 0, 0, 0, 0, 0, 3]);
+    assert_eq!(sensor_alarms(second), [0, 0, 0, 0, 3, 3, 3]);
+}
+
+#[test]
+fn the_reading_stays_with_the_box() {
+    for second_reading in [false, true] {
+        let choices = Choices {
+            second_reading,
+            ..sized(0.2, 0.6)
+        };
+        let mut air_box = AirBox::build(choices).expect("in range");
+        air_box.tick(&at(0.0)).expect("accepted");
+        assert_eq!(air_box.choices(), choices);
+        assert_eq!(air_box.tick(&at(300.0)), Err(Refusal::TooLongAfterLast));
+        air_box = air_box.afresh();
+        air_box.tick(&at(300.0)).expect("accepted");
+        assert_eq!(air_box.choices(), choices);
+    }
 }
 
 #[test]
@@ -228,7 +308,8 @@ fn a_refusal_is_an_error_that_says_why() {
 
 #[test]
 fn debug_shows_the_last_time_and_the_choices() {
-    const CHOICES: &str = "choices: Choices { quiet: true, design_minimum_flow: 0.5, design_cooling_maximum_flow: 1.5 }";
+    const CHOICES: &str =
+        "choices: Choices { quiet: true, design_minimum_flow: 0.5, design_cooling_maximum_flow: 1.5, second_reading: false }";
     let mut air_box = AirBox::quiet();
     let fresh = format!("AirBox {{ last_time: None, {CHOICES}, .. }}");
     assert_eq!(format!("{air_box:?}"), fresh);
