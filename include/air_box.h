@@ -68,7 +68,8 @@
    Of two boxes that are otherwise built alike and get the same ticks, the one with the second reading shows the alarm wherever the one with the first does
    (proved), and sometimes where that one does not. Two ticks are enough, with a plain start and in occupied mode: the fan off at both, the flow not high at
    the first tick and high at the second. The first reading then shows 0, the second 3.
-   air_box_fresh keeps the first reading. So does an initialiser of three values, {true, 0.2, 0.6}, about which compilers warn under -Wextra.
+   air_box_fresh keeps the first reading. So does an initialiser of three values, {true, 0.2, 0.6}, about which compilers warn under -Wextra. A program that
+   assigns the fields one by one has to assign this one too.
 
    What the archive needs and takes.
    - x86-64 with the System V ABI, as on Linux and the BSDs. No other processor, and not the ABI of Windows. SSE2 is enough.
