@@ -111,7 +111,7 @@ delay-on-init Quiet = true
 abbrev pub unticked : Choices → AirBox
 unticked choices = record { state = fresh-controller; «last_time» = Absent; choices = choices }
 
--- the one that is built without naming design flows
+-- the one that is built without naming design flows or a reading
 abbrev pub fresh-box : Start → AirBox
 fresh-box start = unticked (usual (delay-on-init start))
 
@@ -136,7 +136,7 @@ tick box k = decided (questions (box .«last_time») k) box k
 abbrev pub given-for : AirBox → Tick → ControllerOutput ⊎ ℕ
 given-for box k = outputs-or-number (tick box k .answer)
 
--- ---- document 02, N13: building a box with design flows of its own
+-- ---- document 02, N13 and N12: building a box with design flows and a reading of its own; no reading is refused
 
 -- the cooling maximum from 0.1 to 10.0, and the minimum from 0.0 to the cooling maximum
 abbrev pub design-flows-within : Choices → Bool

@@ -2,7 +2,8 @@
 -- are those of `controller-output`.
 -- `controller-output` follows the Rust's `ControllerState::output` line by line, with document 01's rules for the helpers, and with the
 -- box's design flows where the Rust has its two constants (document 02, N13).
--- For a plain start that is what the Rust, so changed, gives on accepted ticks; this is argued and run, not proved (docs/DIFFERENCES.md).
+-- For a plain start and the first reading of the airflow sensor alarm that is what the Rust, so changed, gives on accepted ticks; this is argued and
+-- run, not proved (docs/DIFFERENCES.md). What the second reading changes (N12) is said in SecondReading.antt of nights.
 -- The method `AirBox::tick` returns `tick` of the box and the tick, by its contract.
 use mathlib.Core.Path.{_≡_}
 use mathlib.Core.Logic.{inl}

@@ -62,7 +62,7 @@ pub record ListOfChanges (a : AlarmOutput) : Type 0 where
   pub from-13 : a .«leaking_damper» ≡ pos 4 → a .«low_airflow» ≡ pos 3 → (old-code a ≡ 13) × (code a ≡ 34)
   pub no-other : ¬ ((a .«leaking_damper» ≡ pos 4) × Low a) → code a ≡ old-code a
 
--- ---- the sensor rule overlaps neither of the others
+-- ---- the sensor rule overlaps neither of the others, in either of its readings (N12)
 
 pub record SensorAlone (a : AlarmOutput) : Type 0 where
   pub without-leak : a .«airflow_sensor» ≡ pos 3 → a .«leaking_damper» ≢ pos 4

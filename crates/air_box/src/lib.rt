@@ -102,7 +102,7 @@ impl Built {
 }
 
 impl AirBox {
-    // A box that has had no tick, with the usual design flows.
+    // A box that has had no tick, with the usual design flows and the first reading.
     pub fn fresh(start: Start) -> AirBox
         ensures { λ r. ⌜ r ≡ AirBoxes.fresh-box start ⌝ }
     {
@@ -110,7 +110,7 @@ impl AirBox {
         unticked(Choices::usual(quiet))
     }
 
-    // A box that has had no tick, with the design flows that are wanted. What it was built with stays.
+    // A box that has had no tick, with the design flows and the reading that are wanted. What it was built with stays.
     pub fn build(choices: Choices) -> Built
         ensures { λ r. ⌜ r ≡ AirBoxes.build choices ⌝ }
     {

@@ -13,7 +13,7 @@ use cooling_only_controller::ControllerOutput;
 use records::AirBoxC;
 use records::BuiltC;
 
-// A box that has had no tick, with the usual design flows.
+// A box that has had no tick, with the usual design flows and the first reading.
 #[no_mangle]
 pub extern "C" fn air_box_fresh(quiet: bool) -> AirBoxC
     ensures { λ r. ⌜ Promises.Fresh (BoxChoices.usual quiet) r ⌝ }

@@ -28,7 +28,8 @@ fresh-controller =
     }
 
 -- Rust `ControllerState::output`; G36.TerminalUnits.CoolingOnly.Controller
--- `choices` goes to each stage that has a choice in it: the design flows, which are constants in the Rust, and the start, which is plain there.
+-- `choices` goes to each stage that has a choice in it: the design flows, which are constants in the Rust, the start, which is plain there, and the
+-- reading of the airflow sensor alarm, which is the first there.
 -- In `let setpoints = setpoints ..` and the like the name on the right is the stage, and the one on the left its step, as in the Rust.
 unfoldable pub controller-output : ControllerState → Float → ControllerInput → Choices → ControllerStep
 controller-output s t input choices =
