@@ -48,7 +48,7 @@
    Size. A box from air_box_fresh has a design minimum of 0.5 and a cooling maximum of 1.5 cubic metres a second. A box of another size is built with
    its own two flows:
 
-       AirBoxChoices choices = {true, 0.2, 0.6, false};      // a quiet start, the design minimum, the cooling maximum, the first reading
+       AirBoxChoices choices = {true, 0.2, 0.6, false};      // a quiet start, the design minimum, the cooling maximum, the first reading of the alarm
        AirBox box;                                           // what stands there is not read
        uint8_t number = air_box_build(&box, choices);
        if (number != AIR_BOX_BUILT) report(number);          // nothing was written: there is no box to tick
@@ -68,8 +68,9 @@
    Of two boxes that are otherwise built alike and get the same ticks, the one with the second reading shows the alarm wherever the one with the first does
    (proved), and sometimes where that one does not. Two ticks are enough, with a plain start and in occupied mode: the fan off at both, the flow not high at
    the first tick and high at the second. The first reading then shows 0, the second 3.
-   air_box_fresh keeps the first reading. So does an initialiser of three values, {true, 0.2, 0.6}, about which compilers warn under -Wextra. A program that
-   assigns the fields one by one has to assign this one too.
+   Which one a box takes is for the designer of its controls to say: the first is that of the published reference, the second that of the guideline as the
+   maker's consultants read it. air_box_fresh keeps the first. So does an initialiser of three values, {true, 0.2, 0.6}, about which compilers warn under
+   -Wextra. A program that assigns the fields one by one has to assign this one too.
 
    What the archive needs and takes.
    - x86-64 with the System V ABI, as on Linux and the BSDs. No other processor, and not the ABI of Windows. SSE2 is enough.
@@ -83,6 +84,8 @@
    What a caller keeps to. A pointer points to a whole record of its type, and the box, the tick and the output do not lie over each other. A flag is 0 or 1,
    and nothing else. A box is what air_box_fresh, air_box_build or a tick left, or a copy of it. air_box_build takes any room for one. The
    other numbers of a tick, and the two flows of a building, may be any, NaN and infinities among them: none stops the box.
+   Header and archive come together. A program that was compiled with an older header is compiled again with this one: the records grew, which no linker
+   sees, and a call from the older program would write past its box.
 
    A box holds no pointer: it may be copied, by assignment or memcpy, and saved, to be loaded by a program with the same archive; the caller keeps a
    version beside it. A loaded box goes on where the same clock has moved on by at most 240 seconds; else a fresh one is needed. Its padding may
@@ -131,7 +134,7 @@ typedef struct AirBoxChoices {
     bool quiet;                         /* true: a quiet start; false: a plain one */
     double design_minimum_flow;         /* from 0.0 to the maximum; 0.5 where air_box_fresh built the box */
     double design_cooling_maximum_flow; /* from 0.1 to 10.0; 1.5 there */
-    bool second_reading;                /* true: the second reading of the airflow sensor alarm; false: the first, as there */
+    bool second_reading;                /* true: the second reading of the airflow sensor alarm; false: the first, which air_box_fresh has */
 } AirBoxChoices;
 AIR_BOX_ASSERT(sizeof(AirBoxChoices) == 32);
 AIR_BOX_ASSERT(offsetof(AirBoxChoices, design_minimum_flow) == 8);

@@ -1,5 +1,5 @@
 -- Demand 3 holds, for either reading and from either start; the demand itself speaks of a plain start and the first reading. Assumes nothing.
-use mathlib.Core.Logic.{_⊎_, inl, inr}
+use mathlib.Core.Logic.{_↔_, _⊎_, inl, inr, Iff·rfl}
 use mathlib.Core.List.{List, [], _∷_}
 use Prim.Native.Nat.{ℕ}
 use mathlib.Core.Bool.{false}
@@ -23,19 +23,19 @@ module _ (P Q : List Tick → NightStep → Type 0) (weaker : (earlier : List Ti
   along-weaker earlier (s ∷ rest) a = (weaker earlier s (a .0), along-weaker (accepted-after earlier (s .ticked) (s .given)) rest (a .1))
 
 -- of a plain start with the first reading the two say the same
-as-demanded : (minimum maximum : Float) (earlier : List Tick) (k : Tick) (given : ControllerOutput ⊎ ℕ) → ExactGivenBy (plain minimum maximum) earlier k given → ExactGiven (plain minimum maximum) earlier k given
-as-demanded minimum maximum earlier k (inl output) g = g
-as-demanded minimum maximum earlier k (inr number) g = g
+pub demand-3-is-a-case : (minimum maximum : Float) (earlier : List Tick) (k : Tick) (given : ControllerOutput ⊎ ℕ) → ExactGivenBy (plain minimum maximum) earlier k given ↔ ExactGiven (plain minimum maximum) earlier k given
+demand-3-is-a-case minimum maximum earlier k (inl output) = Iff·rfl
+demand-3-is-a-case minimum maximum earlier k (inr number) = Iff·rfl
 
-pub demand-3-is-a-case : EitherReading → Demand3
-demand-3-is-a-case either = record {
+from-either-reading : EitherReading → Demand3
+from-either-reading either = record {
   flow-high-rule = λ minimum maximum. either .flow-high-rule (plain minimum maximum);
   every-night-exactly = λ minimum maximum night.
       let choices = plain minimum maximum in
       along-weaker (λ earlier s. ExactGivenBy choices earlier (s .ticked) (s .given)) (λ earlier s. ExactGiven choices earlier (s .ticked) (s .given))
-      (λ earlier s. as-demanded minimum maximum earlier (s .ticked) (s .given)) [] (night-of choices night) (either .every-night-exactly choices night);
+      (λ earlier s. demand-3-is-a-case minimum maximum earlier (s .ticked) (s .given) .0) [] (night-of choices night) (either .every-night-exactly choices night);
   two-nights = either .two-nights false false;
 }
 
 pub demand-3 : Demand3
-demand-3 = demand-3-is-a-case either-reading
+demand-3 = from-either-reading either-reading

@@ -1,6 +1,6 @@
 -- N12. The first reading is the definition of before; the two readings differ in the alarm, its delay and the choice alone; where flow has been high with the fan off for the delay, the fan has been off for it and flow is high. Assumes nothing.
 use mathlib.Core.Path.{_≡_, refl, sym, ap, _∙_}
-use mathlib.Core.List.{List, [], _∷_}
+use mathlib.Core.List.{List, [], _∷_, map}
 use mathlib.Core.Bool.{Bool, true, false}
 use lib.Dec.{T}
 use lib.Ieee.{Float, round, neg, sub, add, mul, lt, le, eq, isNan}
@@ -17,16 +17,19 @@ use Rattle.cooling_only_controller_airflow.specs.Airflow.{damper, system-reques
 use Rattle.cooling_only_controller_airflow.specs.declared.AlarmInput.{AlarmInput}
 use Rattle.cooling_only_controller_airflow.specs.declared.AlarmsState.{AlarmsState}
 use Rattle.cooling_only_controller.specs.Controller.{controller-output}
-use Rattle.air_box.specs.AirBox.{questions, decided, accepted-tick, tick}
+use Rattle.air_box.specs.AirBox.{questions, unticked, decided, accepted-tick, tick, outputs-or-number}
 use Rattle.air_box.specs.declared.Tick.{Tick}
 use Rattle.air_box.specs.declared.AirBox.{AirBox}
+use Rattle.air_box.specs.declared.AirBoxStep.{AirBoxStep}
+use Rattle.air_box.specs.declared.Answer.{Answer}
+use Rattle.air_box.specs.declared.Answer.the-variants.{Accepted, Refused}
 use Rattle.air_box.specs.declared.Verdict.{Verdict}
 use Rattle.air_box.specs.declared.Verdict.the-variants.{Accept, Refuse}
 use Rattle.nights.specs.Nights.{NightStep, steps}
 use Rattle.nights.specs.Demand3.{H}
 use Rattle.nights.specs.AlarmsStage.{accepted-with, decided-with, tick-with}
 use Rattle.nights.specs.OneReading.{one-reading-alarms}
-use Rattle.nights.specs.SecondReading.{First, FirstUntouched, box-but, step-but, EqualButThatAlarm, SecondToo, FirstImpliesSecond, Apart, SecondReading}
+use Rattle.nights.specs.SecondReading.{FirstUntouched, box-but, answer-but, step-but, given-but, night-step-but, EqualButThatAlarm, SecondToo, FirstImpliesSecond, Apart, SecondReading}
 use Rattle.nights.proofs.AcceptedTicks.{AllAccepted}
 use Rattle.nights.proofs.Conditions.{held-since-law, held-by-both}
 use Rattle.nights.proofs.Grown.{grown, along-two}
@@ -40,7 +43,7 @@ stage-untouched : (s : AlarmsState) (t : Float) (input : AlarmInput) (choices : 
 unfolding alarms one-reading-alarms
 stage-untouched s t input choices first = rw first
 
-decided-untouched : (v : Verdict) (box : AirBox) (k : Tick) → First box → decided v box k ≡ decided-with one-reading-alarms v box k
+decided-untouched : (v : Verdict) (box : AirBox) (k : Tick) → box .choices .«second_reading» ≡ false → decided v box k ≡ decided-with one-reading-alarms v box k
 unfolding accepted-tick accepted-with controller-output
 decided-untouched Accept box k first = rw (stage-untouched _ (k .t) _ (box .choices) first)
 decided-untouched (Refuse reason) box k first = refl
@@ -61,8 +64,33 @@ tick-but : (box : AirBox) (k : Tick) → step-but (tick (box-but box) k) ≡ ste
 unfolding tick
 tick-but box k = decided-but (questions (box .«last_time») k) box k
 
+every-tick : (second first : AirBox) (k : Tick) → box-but second ≡ box-but first → step-but (tick second k) ≡ step-but (tick first k)
+every-tick second first k same = sym (tick-but second k) ∙ ap (λ (box : AirBox). step-but (tick box k)) same ∙ tick-but first k
+
+-- ---- and so along a night
+
+given-is : (a : Answer) → given-but (outputs-or-number a) ≡ outputs-or-number (answer-but a)
+given-is (Accepted output) = refl
+given-is (Refused reason) = refl
+
+abbrev step-left : Tick → AirBoxStep → NightStep
+step-left k s = record { ticked = k; given = outputs-or-number (s .answer); box = s .state }
+
+nights-but : (second first : AirBox) (ks : List Tick) → box-but second ≡ box-but first → map night-step-but (steps second ks) ≡ map night-step-but (steps first ks)
+nights-but second first [] same = refl
+nights-but second first (k ∷ ks) same =
+    let alike = every-tick second first k same in
+    let after : List NightStep = map night-step-but (steps (tick first k .state) ks) in
+    rw (given-is, given-is)
+    (ap (λ (l : List NightStep). step-left k (step-but (tick second k)) ∷ l) (nights-but (tick second k .state) (tick first k .state) ks (ap (λ (s : AirBoxStep). s .state) alike))
+    ∙ ap (λ (s : AirBoxStep). step-left k s ∷ after) alike)
+
 equal-but-that-alarm : EqualButThatAlarm
-equal-but-that-alarm second first k is-second is-first same = sym (tick-but second k) ∙ ap (λ (box : AirBox). step-but (tick box k)) same ∙ tick-but first k
+equal-but-that-alarm = record {
+  every-tick = every-tick;
+  built-alike = λ quiet minimum maximum. refl;
+  every-night = λ quiet minimum maximum night. nights-but (unticked (chosen quiet minimum maximum true)) (unticked (chosen quiet minimum maximum false)) night refl;
+}
 
 -- ---- wherever the first raises the alarm, the second does
 

@@ -1,6 +1,6 @@
 -- Document 02, N4: under the quiet start the fan's arming delay starts as in a plain start. What moves by that, and what does not.
 -- The method `AirBox::tick` is proved to return `tick`, by which every night here is run; beside it stands the box as it was before N4.
--- Both are of any design flows (N13) and either reading of the airflow sensor alarm (N12).
+-- Both have what landed since, any design flows (N13) and either reading of the airflow sensor alarm (N12), so that they differ by N4 alone.
 use mathlib.Core.Path.{_≡_}
 use mathlib.Core.Logic.{_⊎_, inl, inr}
 use mathlib.Core.List.{List, [], _∷_}
@@ -98,7 +98,7 @@ old-steps box ticks = steps-with old-alarms box ticks
 
 -- ---- the definition changed in one place
 
--- `alarms` is the old text with false in the arming delay, and `controller-with` puts that stage where the controller has it.
+-- `alarms` is that text with false in the arming delay, and `controller-with` puts that stage where the controller has it.
 pub record OnePlace : Type 0 where
   pub stage : (s : AlarmsState) (t : Float) (input : AlarmInput) (choices : Choices)
       → alarms s t input choices ≡ alarms-armed false s t input choices

@@ -20,7 +20,7 @@ use Rattle.cooling_only_controller_airflow.specs.declared.AlarmInput.{AlarmInpu
 use Rattle.cooling_only_controller_airflow.specs.declared.AlarmsState.{AlarmsState}
 use Rattle.cooling_only_controller.specs.declared.ControllerOutput.{ControllerOutput}
 use Rattle.cooling_only_controller.specs.declared.ControllerState.{ControllerState}
-use Rattle.air_box.specs.AirBox.{tick}
+use Rattle.air_box.specs.AirBox.{unticked, tick}
 use Rattle.air_box.specs.BenchTick.{bench-tick}
 use Rattle.air_box.specs.Demand1.{AllYes}
 use Rattle.air_box.specs.declared.Tick.{Tick}
@@ -29,27 +29,20 @@ use Rattle.air_box.specs.declared.AirBoxStep.{AirBoxStep}
 use Rattle.air_box.specs.declared.Answer.{Answer}
 use Rattle.air_box.specs.declared.Answer.the-variants.{Accepted, Refused}
 use Rattle.nights.specs.Nights.{NightStep, night-of, Along, last-time, Shown, shown, fan, mode, FlowHigh, HeldFor}
-use Rattle.nights.specs.Demand3.{H, FlowHighRule, ExactAlarm, ExactGiven, ThreeIfThree, TwoNights, Demand3}
+use Rattle.nights.specs.Demand3.{H, FlowHighRule, ExactAlarm, ExactGiven, ThreeIfThree, TwoNights, plain}
 use Rattle.nights.specs.AlarmsStage.{tick-with}
 use Rattle.nights.specs.OneReading.{one-reading-alarms}
-
--- a box that was built with the first reading, and one with the second
-abbrev pub First : AirBox → Type 0
-First box = box .choices .«second_reading» ≡ false
-
-abbrev pub Second : AirBox → Type 0
-Second box = box .choices .«second_reading» ≡ true
 
 -- ---- the first reading is untouched: every tick of such a box, whatever it holds, is what it was
 
 pub record FirstUntouched : Type 0 where
   pub stage : (s : AlarmsState) (t : Float) (input : AlarmInput) (choices : Choices) → choices .«second_reading» ≡ false
       → alarms s t input choices ≡ one-reading-alarms s t input choices
-  pub every-tick : (box : AirBox) (k : Tick) → First box → tick box k ≡ tick-with one-reading-alarms box k
+  pub every-tick : (box : AirBox) (k : Tick) → box .choices .«second_reading» ≡ false → tick box k ≡ tick-with one-reading-alarms box k
 
 -- ---- the second reading is equal to the first but for that alarm and its delay
 
--- what is left of outputs, of a state, of a box and of a step without the alarm, its delay and the choice of its reading
+-- what is left of outputs, of a state, of a box and so on without the alarm, its delay and the choice of its reading
 abbrev pub output-but : ControllerOutput → ControllerOutput
 output-but output =
     record {
@@ -109,11 +102,24 @@ answer-but (Refused reason) = Refused reason
 abbrev pub step-but : AirBoxStep → AirBoxStep
 step-but s = record { state = box-but (s .state); answer = answer-but (s .answer) }
 
--- Of a box with the second reading and one with the first that agree in all else: every tick gives both the same answer, nine outputs or the
--- reason, and leaves them agreeing.
-abbrev pub EqualButThatAlarm : Type 0
-EqualButThatAlarm = (second first : AirBox) (k : Tick) → Second second → First first → box-but second ≡ box-but first
-    → step-but (tick second k) ≡ step-but (tick first k)
+abbrev pub given-but : ControllerOutput ⊎ ℕ → ControllerOutput ⊎ ℕ
+given-but (inl output) = inl (output-but output)
+given-but (inr number) = inr number
+
+abbrev pub night-step-but : NightStep → NightStep
+night-step-but s = record { ticked = s .ticked; given = given-but (s .given); box = box-but (s .box) }
+
+pub record EqualButThatAlarm : Type 0 where
+  -- Of any two boxes that agree but there, the one with the second reading and the other with the first: every tick gives both the same answer,
+  -- nine outputs or the reason, and leaves them agreeing.
+  pub every-tick : (second first : AirBox) (k : Tick) → box-but second ≡ box-but first → step-but (tick second k) ≡ step-but (tick first k)
+  -- two that are built alike but for the reading agree
+  pub built-alike : (quiet : Bool) (minimum maximum : Float)
+      → box-but (unticked (chosen quiet minimum maximum true)) ≡ box-but (unticked (chosen quiet minimum maximum false))
+  -- so over every night all else is the same
+  pub every-night : (quiet : Bool) (minimum maximum : Float) (night : List Tick)
+      → map night-step-but (night-of (chosen quiet minimum maximum true) night)
+      ≡ map night-step-but (night-of (chosen quiet minimum maximum false) night)
 
 -- ---- demand 3 for either reading, from either start
 
@@ -185,7 +191,9 @@ pub record SecondReading : Type 0 where
   pub first-untouched : FirstUntouched
   pub equal-but-that-alarm : EqualButThatAlarm
   pub either-reading : EitherReading
-  -- demand 3, as it stands in Demand3.antt, is the case of a plain start and the first reading
-  pub demand-3-is-a-case : EitherReading → Demand3
+  -- Demand 3, as it stands in Demand3.antt, is the case of a plain start and the first reading: what is given is right by the one exactly if it is
+  -- by the other, and its two nights are those of `either-reading` there.
+  pub demand-3-is-a-case : (minimum maximum : Float) (earlier : List Tick) (k : Tick) (given : ControllerOutput ⊎ ℕ)
+      → ExactGivenBy (plain minimum maximum) earlier k given ↔ ExactGiven (plain minimum maximum) earlier k given
   pub first-implies-second : FirstImpliesSecond
   pub apart : Apart
