@@ -29,7 +29,8 @@ use Rattle.nights.specs.Nights.{NightStep, steps}
 use Rattle.nights.specs.Demand3.{H}
 use Rattle.nights.specs.AlarmsStage.{accepted-with, decided-with, tick-with}
 use Rattle.nights.specs.OneReading.{one-reading-alarms}
-use Rattle.nights.specs.SecondReading.{FirstUntouched, box-but, answer-but, step-but, given-but, night-step-but, EqualButThatAlarm, SecondToo, FirstImpliesSecond, Apart, SecondReading}
+use Rattle.nights.specs.ButThatAlarm.{box-but, answer-but, step-but, given-but, night-step-but}
+use Rattle.nights.specs.SecondReading.{FirstUntouched, EqualButThatAlarm, SecondToo, FirstImpliesSecond, Apart, SecondReading}
 use Rattle.nights.proofs.AcceptedTicks.{AllAccepted}
 use Rattle.nights.proofs.Conditions.{held-since-law, held-by-both}
 use Rattle.nights.proofs.Grown.{grown, along-two}

@@ -5,4 +5,5 @@ pub mod QuietStart
 pub mod FixedSizes
 pub mod OtherSizes
 pub mod OneReading
+pub mod ButThatAlarm
 pub mod SecondReading
