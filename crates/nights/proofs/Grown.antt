@@ -15,7 +15,7 @@ use Rattle.air_box.specs.declared.AirBoxStep.{AirBoxStep}
 use Rattle.air_box.specs.declared.Answer.the-variants.{Refused}
 use Rattle.air_box.specs.declared.Refusal.{Refusal}
 use Rattle.air_box.proofs.Demands.{tick-accepted, tick-refused, by-verdict}
-use Rattle.nights.specs.Nights.{NightStep, steps, Along, Shown, shown, shown-before}
+use Rattle.nights.specs.Nights.{NightStep, steps-by, steps, Along, Shown, shown}
 use Rattle.nights.proofs.Histories.{in-order, newest-time}
 use Rattle.nights.proofs.AcceptedTicks.{AllAccepted}
 
@@ -72,24 +72,26 @@ shown-after choices h (k ∷ ks) =
     (λ all. subst (λ (s : AirBoxStep). ShownAfter choices h (shown (step-by k s ∷ steps (s .state) ks))) (sym (grown-accepts choices h k all)) (all, refl, shown-after choices (k ∷ h) ks))
     (λ reason first. subst (λ (s : AirBoxStep). ShownAfter choices h (shown (step-by k s ∷ steps (s .state) ks))) (sym (grown-refuses choices h k reason first)) (shown-after choices h ks))
 
--- ---- two boxes along one night: they have had the same ticks, and what was chosen when they were built decides no question
-module _ (one other : Choices) (R : NightStep → NightStep → Type 0)
-    (accepted : (h : List Tick) (k : Tick) → AllAccepted (k ∷ h)
-    → R (record { ticked = k; given = inl (controller-step-of (grown one h) k .output); box = grown one (k ∷ h) })
-    (record { ticked = k; given = inl (controller-step-of (grown other h) k .output); box = grown other (k ∷ h) }))
-    (refused : (h : List Tick) (k : Tick) (reason : Refusal)
-    → R (record { ticked = k; given = inr (refusal-number reason); box = grown one h }) (record { ticked = k; given = inr (refusal-number reason); box = grown other h })) where
-  abbrev Both : Tick → List Tick → AirBoxStep → AirBoxStep → Type 0
-  Both k ks a b = Related R (step-by k a ∷ steps (a .state) ks) (step-by k b ∷ steps (b .state) ks)
+-- ---- two boxes along one night, which accept and refuse the same ticks
 
-  pub along-two : (h ks : List Tick) → AllAccepted h → Related R (steps (grown one h) ks) (steps (grown other h) ks)
-  unfolding accepted-tick
+-- A box that is ticked by `ticked`. It is `after h` once it has accepted the history h, and `step h k` is what it then does with a tick k that it accepts.
+pub record Grows (ticked : AirBox → Tick → AirBoxStep) (after : List Tick → AirBox) (step : List Tick → Tick → AirBoxStep) : Type 0 where
+  pub next : (h : List Tick) (k : Tick) → step h k .state ≡ after (k ∷ h)
+  pub accepts : (h : List Tick) (k : Tick) → AllYes (newest-time h) k → ticked (after h) k ≡ step h k
+  pub refuses : (h : List Tick) (k : Tick) (reason : Refusal) → FirstNo reason (newest-time h) k → ticked (after h) k ≡ record { state = after h; answer = Refused reason }
+
+-- the box of today, by what was chosen when it was built
+pub grows : (choices : Choices) → Grows tick (grown choices) (λ h k. accepted-tick (grown choices h) k)
+grows choices = record { next = λ h k. refl; accepts = grown-accepts choices; refuses = grown-refuses choices }
+
+module _ (one-ticked other-ticked : AirBox → Tick → AirBoxStep) (one other : List Tick → AirBox) (one-step other-step : List Tick → Tick → AirBoxStep)
+    (one-grows : Grows one-ticked one one-step) (other-grows : Grows other-ticked other other-step) (R : NightStep → NightStep → Type 0)
+    (accepted : (h : List Tick) (k : Tick) → AllAccepted (k ∷ h) → R (step-by k (one-step h k)) (step-by k (other-step h k)))
+    (refused : (h : List Tick) (k : Tick) (reason : Refusal)
+    → R (record { ticked = k; given = inr (refusal-number reason); box = one h }) (record { ticked = k; given = inr (refusal-number reason); box = other h })) where
+  pub along-two : (h ks : List Tick) → AllAccepted h → Related R (steps-by one-ticked (one h) ks) (steps-by other-ticked (other h) ks)
   along-two h [] a = tt
   along-two h (k ∷ ks) a =
       by-verdict (newest-time h) k
-      (λ all.
-      subst (λ (s : AirBoxStep). Both k ks s (tick (grown other h) k)) (sym (grown-accepts one h k all))
-      (subst (λ (s : AirBoxStep). Both k ks (accepted-tick (grown one h) k) s) (sym (grown-accepts other h k all)) (accepted h k (all, a), along-two (k ∷ h) ks (all, a))))
-      (λ reason first.
-      subst (λ (s : AirBoxStep). Both k ks s (tick (grown other h) k)) (sym (grown-refuses one h k reason first))
-      (subst (λ (s : AirBoxStep). Both k ks (record { state = grown one h; answer = Refused reason }) s) (sym (grown-refuses other h k reason first)) (refused h k reason, along-two h ks a)))
+      (λ all. rw (one-grows .accepts h k all, other-grows .accepts h k all) (accepted h k (all, a), rw (one-grows .next h k, other-grows .next h k) (along-two (k ∷ h) ks (all, a))))
+      (λ reason first. rw (one-grows .refuses h k reason first, other-grows .refuses h k reason first) (refused h k reason, along-two h ks a))

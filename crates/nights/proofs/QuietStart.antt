@@ -33,7 +33,7 @@ use Rattle.nights.specs.AlarmsStage.{controller-with, accepted-with, dec
 use Rattle.nights.specs.QuietStart.{alarms-armed, old-alarms, old-tick, old-steps, OnePlace, PlainUntouched, NineOutputs, NeverLater, SameFields, SameButLowAirflow, EveryNight, SameFromAStop, BenchCase, QuietStart}
 use Rattle.nights.proofs.Histories.{newest-time}
 use Rattle.nights.proofs.AcceptedTicks.{AllAccepted}
-use Rattle.nights.proofs.Grown.{grown, grown-last, grown-choices, grown-accepts, grown-refuses}
+use Rattle.nights.proofs.Grown.{grown, grown-last, grown-choices, grown-accepts, grown-refuses, Grows, grows, along-two}
 use Rattle.nights.proofs.LowAirflowAlarm.{Taken, AlarmsAlong, never-later}
 
 one-place : OnePlace
@@ -232,26 +232,16 @@ old-refuses : (choices : Choices) (h : List Tick) (k : Tick) (reason : Refusal) 
 unfolding tick-with
 old-refuses choices h k reason first = rw (old-last choices h, questions-refuse (newest-time h) k reason .1 first)
 
-abbrev Both : Tick → List Tick → AirBoxStep → AirBoxStep → Type 0
-Both k ks new old =
-    Related SameButLowAirflow (record { ticked = k; given = outputs-or-number (new .answer); box = new .state } ∷ steps (new .state) ks)
-    (record { ticked = k; given = outputs-or-number (old .answer); box = old .state } ∷ old-steps (old .state) ks)
+old-grows : (choices : Choices) → Grows old-tick (old-grown choices) (λ h k. accepted-with old-alarms (old-grown choices h) k)
+old-grows choices = record { next = λ h k. refl; accepts = old-accepts choices; refuses = old-refuses choices }
 
 along-both : (choices : Choices) (h ks : List Tick) → AllAccepted h → Related SameButLowAirflow (steps (grown choices h) ks) (old-steps (old-grown choices h) ks)
 unfolding accepted-tick accepted-with
-along-both choices h [] a = tt
-along-both choices h (k ∷ ks) a =
-    by-verdict (newest-time h) k
-    (λ all.
-    subst (λ (new : AirBoxStep). Both k ks new (old-tick (old-grown choices h) k)) (sym (grown-accepts choices h k all))
-    (subst (λ (old : AirBoxStep). Both k ks (accepted-tick (grown choices h) k) old) (sym (old-accepts choices h k all)) (
-      record { ticked = refl; given = (outputs-of _ _ k (fields-kept choices h), earlier-or-same choices h k (all, a)); fields = fields-kept choices (k ∷ h) },
-      along-both choices (k ∷ h) ks (all, a),
-    )))
-    (λ reason first.
-    subst (λ (new : AirBoxStep). Both k ks new (old-tick (old-grown choices h) k)) (sym (grown-refuses choices h k reason first))
-    (subst (λ (old : AirBoxStep). Both k ks (record { state = grown choices h; answer = Refused reason }) old) (sym (old-refuses choices h k reason first))
-    (record { ticked = refl; given = refl; fields = fields-kept choices h }, along-both choices h ks a)))
+along-both choices =
+    along-two tick old-tick (grown choices) (old-grown choices) (λ h k. accepted-tick (grown choices h) k) (λ h k. accepted-with old-alarms (old-grown choices h) k)
+    (grows choices) (old-grows choices) SameButLowAirflow
+    (λ h k a. record { ticked = refl; given = (outputs-of _ _ k (fields-kept choices h), earlier-or-same choices h k a); fields = fields-kept choices (k ∷ h) })
+    (λ h k reason. record { ticked = refl; given = refl; fields = fields-kept choices h })
 
 every-night : EveryNight
 every-night choices night = along-both choices [] night tt

@@ -33,7 +33,7 @@ use Rattle.nights.specs.ButThatAlarm.{box-but, answer-but, step-but, giv
 use Rattle.nights.specs.SecondReading.{FirstUntouched, EqualButThatAlarm, SecondToo, FirstImpliesSecond, Apart, SecondReading}
 use Rattle.nights.proofs.AcceptedTicks.{AllAccepted}
 use Rattle.nights.proofs.Conditions.{held-since-law, held-by-both}
-use Rattle.nights.proofs.Grown.{grown, along-two}
+use Rattle.nights.proofs.Grown.{grown, grows, along-two}
 use Rattle.nights.proofs.FlowHighRule.{high-after}
 use Rattle.nights.proofs.SensorAlarm.{high-fan-off, fan-off, sensor-delay-after, sensor-on-after, delay-reached, alarm-is-three}
 use Rattle.nights.proofs.Demand3.{either-reading, demand-3-is-a-case}
@@ -116,8 +116,9 @@ module _ (quiet : Bool) (minimum maximum : Float) where
   Too a b = SecondToo (a .given) (b .given)
 
   second-too : (night : List Tick) → Related Too (steps (grown one []) night) (steps (grown other []) night)
+  unfolding accepted-tick
   second-too night =
-      along-two one other Too
+      along-two tick tick (grown one) (grown other) (λ h k. accepted-tick (grown one h) k) (λ h k. accepted-tick (grown other h) k) (grows one) (grows other) Too
       (λ h k a e. let f = alarm-is-three one h k .0 e in alarm-is-three other h k .1 (f .0, on-too h k a (f .1)))
       (λ h k reason. refl)
       [] night tt

@@ -1,6 +1,5 @@
 -- The box with another alarms stage in place of its own, for claims that set an old stage beside that of today.
 -- `OnePlace` of QuietStart.antt says that with `alarms` itself it is the controller of today.
-use mathlib.Core.List.{List, [], _∷_}
 use lib.Ieee.{Float}
 use Rattle.box_choices.specs.declared.Choices.{Choices}
 use Rattle.cdl_recurrences.specs.declared.OptionalTime.the-variants.{At}
@@ -11,14 +10,13 @@ use Rattle.cooling_only_controller.specs.Controller.{controller-output}
 use Rattle.cooling_only_controller.specs.declared.ControllerInput.{ControllerInput}
 use Rattle.cooling_only_controller.specs.declared.ControllerState.{ControllerState}
 use Rattle.cooling_only_controller.specs.declared.ControllerStep.{ControllerStep}
-use Rattle.air_box.specs.AirBox.{questions, outputs-or-number}
+use Rattle.air_box.specs.AirBox.{questions}
 use Rattle.air_box.specs.declared.Tick.{Tick}
 use Rattle.air_box.specs.declared.AirBox.{AirBox}
 use Rattle.air_box.specs.declared.AirBoxStep.{AirBoxStep}
 use Rattle.air_box.specs.declared.Answer.the-variants.{Accepted, Refused}
 use Rattle.air_box.specs.declared.Verdict.{Verdict}
 use Rattle.air_box.specs.declared.Verdict.the-variants.{Accept, Refuse}
-use Rattle.nights.specs.Nights.{NightStep}
 
 -- an alarms stage
 abbrev pub AlarmsStage : Type 0
@@ -74,10 +72,3 @@ decided-with stage (Refuse reason) box k = record { state = box; answer = Refuse
 
 unfoldable pub tick-with : AlarmsStage → AirBox → Tick → AirBoxStep
 tick-with stage box k = decided-with stage (questions (box .«last_time») k) box k
-
--- its night
-abbrev pub steps-with : AlarmsStage → AirBox → List Tick → List NightStep
-steps-with stage box [] = []
-steps-with stage box (k ∷ ks) =
-    record { ticked = k; given = outputs-or-number (tick-with stage box k .answer); box = tick-with stage box k .state }
-    ∷ steps-with stage (tick-with stage box k .state) ks

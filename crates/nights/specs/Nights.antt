@@ -16,7 +16,7 @@ use Rattle.cdl_recurrences.specs.CdlRecurrences.{greater-hysteretic}
 use Rattle.cdl_recurrences.specs.declared.OptionalTime.{OptionalTime}
 use Rattle.cdl_recurrences.specs.declared.OptionalTime.the-variants.{Absent, At}
 use Rattle.cooling_only_controller.specs.declared.ControllerOutput.{ControllerOutput}
-use Rattle.air_box.specs.AirBox.{unticked, tick, given-for}
+use Rattle.air_box.specs.AirBox.{unticked, tick, outputs-or-number}
 use Rattle.air_box.specs.declared.Tick.{Tick}
 use Rattle.air_box.specs.declared.AirBox.{AirBox}
 use Rattle.air_box.specs.declared.AirBoxStep.{AirBoxStep}
@@ -29,10 +29,16 @@ pub record NightStep : Type 0 where
   pub given : ControllerOutput ⊎ ℕ
   pub box : AirBox
 
--- Each tick gets the box that the one before it left.
+-- Each tick gets the box that the one before it left. `ticked` is what a tick does.
+abbrev pub steps-by : (AirBox → Tick → AirBoxStep) → AirBox → List Tick → List NightStep
+steps-by ticked box [] = []
+steps-by ticked box (k ∷ ks) =
+    record { ticked = k; given = outputs-or-number (ticked box k .answer); box = ticked box k .state }
+    ∷ steps-by ticked (ticked box k .state) ks
+
+-- what this box does
 abbrev pub steps : AirBox → List Tick → List NightStep
-steps box [] = []
-steps box (k ∷ ks) = record { ticked = k; given = given-for box k; box = tick box k .state } ∷ steps (tick box k .state) ks
+steps box ticks = steps-by tick box ticks
 
 -- the night of a box that has had no tick before it, by what was chosen when it was built
 abbrev pub night-of : Choices → List Tick → List NightStep

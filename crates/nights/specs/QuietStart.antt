@@ -31,8 +31,8 @@ use Rattle.air_box.specs.Demand1.{AllYes}
 use Rattle.air_box.specs.declared.Tick.{Tick}
 use Rattle.air_box.specs.declared.AirBox.{AirBox}
 use Rattle.air_box.specs.declared.AirBoxStep.{AirBoxStep}
-use Rattle.nights.specs.Nights.{NightStep, steps, night-of, box-after, fan}
-use Rattle.nights.specs.AlarmsStage.{controller-with, tick-with, steps-with}
+use Rattle.nights.specs.Nights.{NightStep, steps-by, steps, night-of, box-after, fan}
+use Rattle.nights.specs.AlarmsStage.{controller-with, tick-with}
 
 -- ---- the box before N4
 
@@ -94,7 +94,7 @@ abbrev pub old-tick : AirBox → Tick → AirBoxStep
 old-tick box k = tick-with old-alarms box k
 
 abbrev pub old-steps : AirBox → List Tick → List NightStep
-old-steps box ticks = steps-with old-alarms box ticks
+old-steps box ticks = steps-by old-tick box ticks
 
 -- ---- the definition changed in one place
 
