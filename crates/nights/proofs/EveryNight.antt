@@ -8,7 +8,6 @@ use lib.Dec.{T}
 use lib.Ieee.Fits.{and-i, and-l, and-r}
 use Rattle.f64_helpers.specs.F64.{decimal}
 use Rattle.box_choices.specs.declared.Choices.{Choices}
-use Rattle.cooling_only_controller_timing.specs.History.{true-delay-after}
 use Rattle.air_box.specs.declared.Tick.{Tick}
 use Rattle.nights.specs.Nights.{NightStep, mode, night-of, Along, FlowHigh, HighFanOff, HeldFor}
 use Rattle.nights.specs.Demand3.{H}
@@ -17,8 +16,8 @@ use Rattle.nights.proofs.Histories.{in-order, last-in-order}
 use Rattle.nights.proofs.AcceptedTicks.{AllAccepted}
 use Rattle.nights.proofs.Grown.{along}
 use Rattle.nights.proofs.FlowHighRule.{high-after, high-law, H-held}
-use Rattle.nights.proofs.Conditions.{samples, held-for-law}
-use Rattle.nights.proofs.SensorAlarm.{high-fan-off, high-fan-off-means, fan-off, sensor-input, on-by, delay-reached, alarm-is-three, alarm-three-or-none}
+use Rattle.nights.proofs.Conditions.{held-for-law}
+use Rattle.nights.proofs.SensorAlarm.{high-fan-off, high-fan-off-means, fan-off, sensor-held, on-after, delay-reached, alarm-is-three, alarm-three-or-none}
 
 both : (a b : Bool) → T (a && b) ↔ (T b × T a)
 both a b = (λ t. (and-r a b t, and-l a b t), λ p. and-i a b (p .1) (p .0))
@@ -26,7 +25,7 @@ both a b = (λ t. (and-r a b t, and-l a b t), λ p. and-i a b (p .1) (p .0))
 -- by the reading: what makes the alarm 3 is its exact condition
 module _ (choices : Choices) (h : List Tick) (k : Tick) (a : AllAccepted (k ∷ h)) where
   abbrev held : (List Tick → Bool) → Bool
-  held input = true-delay-after (decimal 600 1) (choices .quiet) (samples input (k ∷ h)) .held
+  held input = sensor-held (choices .quiet) input (k ∷ h)
 
   first-held : T (held (high-fan-off (H choices))) ↔ HeldFor (HighFanOff (H choices)) 600 (choices .quiet) (in-order (k ∷ h)) k
   first-held = held-for-law (high-fan-off (H choices)) (HighFanOff (H choices)) (high-fan-off-means (H choices) (H-held choices)) 600 (choices .quiet) (decimal 600 1) delay-reached h k a
@@ -37,7 +36,7 @@ module _ (choices : Choices) (h : List Tick) (k : Tick) (a : AllAccepted (k ∷ 
   second-on : T (held fan-off && high-after (H choices) (k ∷ h)) ↔ (FlowHigh (H choices) (in-order (k ∷ h)) × HeldFor FanOff 600 (choices .quiet) (in-order (k ∷ h)) k)
   second-on = Iff·trans (both (held fan-off) (high-after (H choices) (k ∷ h))) (Iff·and (high-law (H choices) (H-held choices) (k ∷ h)) second-held)
 
-  exact-by : (second : Bool) (alarm : ℤ) → (alarm ≡ pos 3) ↔ ((mode k ≡ pos 1) × T (on-by second (held (sensor-input second (H choices))) (high-after (H choices) (k ∷ h))))
+  exact-by : (second : Bool) (alarm : ℤ) → (alarm ≡ pos 3) ↔ ((mode k ≡ pos 1) × T (on-after second (choices .quiet) (H choices) (k ∷ h)))
       → (alarm ≡ pos 3) ⊎ (alarm ≡ pos 0) → ExactAlarmBy second choices (in-order h) k alarm
   exact-by false alarm three none = record { three = Iff·trans three (Iff·and Iff·rfl first-held); else-none = none }
   exact-by true alarm three none =

@@ -42,7 +42,7 @@ pub grown-refuses : (choices : Choices) (h : List Tick) (k : Tick) (reason : Ref
 grown-refuses choices h k reason first = tick-refused (grown choices h) k reason (subst (λ (last : OptionalTime). FirstNo reason last k) (sym (grown-last choices h)) first)
 
 -- a step of a night, by what the box's tick gives
-abbrev step-by : Tick → AirBoxStep → NightStep
+abbrev pub step-by : Tick → AirBoxStep → NightStep
 step-by k s = record { ticked = k; given = outputs-or-number (s .answer); box = s .state }
 
 -- ---- along a night

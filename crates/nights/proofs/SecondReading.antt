@@ -33,9 +33,9 @@ use Rattle.nights.specs.ButThatAlarm.{box-but, answer-but, step-but, giv
 use Rattle.nights.specs.SecondReading.{FirstUntouched, EqualButThatAlarm, SecondToo, FirstImpliesSecond, Apart, SecondReading}
 use Rattle.nights.proofs.AcceptedTicks.{AllAccepted}
 use Rattle.nights.proofs.Conditions.{held-since-law, held-by-both}
-use Rattle.nights.proofs.Grown.{grown, grows, along-two}
+use Rattle.nights.proofs.Grown.{grown, step-by, grows, along-two}
 use Rattle.nights.proofs.FlowHighRule.{high-after}
-use Rattle.nights.proofs.SensorAlarm.{high-fan-off, fan-off, sensor-delay-after, sensor-on-after, delay-reached, alarm-is-three}
+use Rattle.nights.proofs.SensorAlarm.{high-fan-off, fan-off, sensor-held, sensor-on-after, delay-reached, alarm-is-three}
 use Rattle.nights.proofs.Demand3.{either-reading, demand-3-is-a-case}
 
 -- ---- the first reading is untouched
@@ -74,17 +74,14 @@ given-is : (a : Answer) → given-but (outputs-or-number a) ≡ outputs-or-numbe
 given-is (Accepted output) = refl
 given-is (Refused reason) = refl
 
-abbrev step-left : Tick → AirBoxStep → NightStep
-step-left k s = record { ticked = k; given = outputs-or-number (s .answer); box = s .state }
-
 nights-but : (second first : AirBox) (ks : List Tick) → box-but second ≡ box-but first → map night-step-but (steps second ks) ≡ map night-step-but (steps first ks)
 nights-but second first [] same = refl
 nights-but second first (k ∷ ks) same =
     let alike = every-tick second first k same in
     let after : List NightStep = map night-step-but (steps (tick first k .state) ks) in
     rw (given-is, given-is)
-    (ap (λ (l : List NightStep). step-left k (step-but (tick second k)) ∷ l) (nights-but (tick second k .state) (tick first k .state) ks (ap (λ (s : AirBoxStep). s .state) alike))
-    ∙ ap (λ (s : AirBoxStep). step-left k s ∷ after) alike)
+    (ap (λ (l : List NightStep). step-by k (step-but (tick second k)) ∷ l) (nights-but (tick second k .state) (tick first k .state) ks (ap (λ (s : AirBoxStep). s .state) alike))
+    ∙ ap (λ (s : AirBoxStep). step-by k s ∷ after) alike)
 
 equal-but-that-alarm : EqualButThatAlarm
 equal-but-that-alarm = record {
@@ -108,7 +105,7 @@ module _ (quiet : Bool) (minimum maximum : Float) where
       let high = high-after limit (k ∷ h) in
       let off : (h : List Tick) (k : Tick) → AllAccepted (k ∷ h) → T (high-fan-off limit (k ∷ h)) → T (high-fan-off limit (k ∷ h)) → T (fan-off (k ∷ h)) =
       λ h k a u v. and-r (high-after limit (k ∷ h)) (fan-off (k ∷ h)) u in
-      and-i (sensor-delay-after other (k ∷ h) .held) high
+      and-i (sensor-held quiet fan-off (k ∷ h)) high
       (held-by-both (decimal 600 1) 600 delay-reached quiet (high-fan-off limit) (high-fan-off limit) fan-off off h k a t t)
       (and-l high (fan-off (k ∷ h)) (held-since-law (decimal 600 1) 600 delay-reached quiet (high-fan-off limit) h k a .0 t .0))
 

@@ -57,22 +57,27 @@ pub delay-reached : Reach (decimal 600 1) 600
 delay-reached = decimal-reached 600 (omega arith)
 
 -- ---- the memories
-abbrev pub sensor-delay-after : Choices → List Tick → TrueDelayState
-sensor-delay-after choices h = true-delay-after (decimal 600 1) (choices .quiet) (samples (sensor-input (choices .«second_reading») (H choices)) h)
+abbrev pub sensor-delay-after : Bool → (List Tick → Bool) → List Tick → TrueDelayState
+sensor-delay-after quiet input h = true-delay-after (decimal 600 1) quiet (samples input h)
 
--- whether the alarm is on by them, in any mode
-abbrev pub on-by : Bool → Bool → Bool → Bool
-on-by second held high = if second then held && high else held
+abbrev pub sensor-held : Bool → (List Tick → Bool) → List Tick → Bool
+sensor-held quiet input h = sensor-delay-after quiet input h .held
+
+-- whether the alarm is on by them, in any mode, by whether the reading is the second
+abbrev pub on-after : Bool → Bool → Float → List Tick → Bool
+on-after second quiet limit h =
+    let held = sensor-held quiet (sensor-input second limit) h in
+    if second then held && high-after limit h else held
 
 abbrev pub sensor-on-after : Choices → List Tick → Bool
-sensor-on-after choices h = on-by (choices .«second_reading») (sensor-delay-after choices h .held) (high-after (H choices) h)
+sensor-on-after choices h = on-after (choices .«second_reading») (choices .quiet) (H choices) h
 
 flow-high-kept : (choices : Choices) (h : List Tick) → grown choices h .state .alarms .«flow_high» ≡ high-after (H choices) h
 unfolding accepted-tick controller-output alarms
 flow-high-kept choices [] = refl
 flow-high-kept choices (k ∷ h) = rw (flow-high-kept choices h, grown-choices choices h)
 
-sensor-delay-kept : (choices : Choices) (h : List Tick) → grown choices h .state .alarms .«sensor_delay» ≡ sensor-delay-after choices h
+sensor-delay-kept : (choices : Choices) (h : List Tick) → grown choices h .state .alarms .«sensor_delay» ≡ sensor-delay-after (choices .quiet) (sensor-input (choices .«second_reading») (H choices)) h
 unfolding accepted-tick controller-output alarms
 sensor-delay-kept choices [] = refl
 sensor-delay-kept choices (k ∷ h) = rw (sensor-delay-kept choices h, flow-high-kept choices h, grown-choices choices h)

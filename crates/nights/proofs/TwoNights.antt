@@ -11,15 +11,14 @@ use Rattle.f64_helpers.proofs.WholeSeconds.{eq-whole}
 use Rattle.cdl_recurrences.specs.DeadBand.{Related}
 use Rattle.box_choices.specs.BoxChoices.{chosen}
 use Rattle.box_choices.specs.declared.Choices.{Choices}
-use Rattle.cooling_only_controller_timing.specs.History.{true-delay-after}
 use Rattle.air_box.specs.declared.Tick.{Tick}
 use Rattle.nights.specs.Nights.{Shown, night-of, shown, fan}
 use Rattle.nights.specs.Demand3.{H, NoWeaker, ThreeIfThree, TwoNights}
 use Rattle.nights.proofs.AcceptedTicks.{AllAccepted}
 use Rattle.nights.proofs.Grown.{ShownAfter, shown-after}
 use Rattle.nights.proofs.FlowHighRule.{high-after, high-kept, H-held}
-use Rattle.nights.proofs.Conditions.{samples, held-kept}
-use Rattle.nights.proofs.SensorAlarm.{high-fan-off, fan-off, sensor-input, on-by, delay-reached, alarm-is-three}
+use Rattle.nights.proofs.Conditions.{held-kept}
+use Rattle.nights.proofs.SensorAlarm.{high-fan-off, fan-off, sensor-held, on-after, delay-reached, alarm-is-three}
 
 -- ---- at one tick
 same-seconds : (j k : Tick) → IsTime (j .t) → IsTime (k .t) → NoWeaker j k → seconds (j .t) ≡ seconds (k .t)
@@ -45,14 +44,11 @@ fan-kept (j ∷ g) [] r t = absurd r
 fan-kept (j ∷ g) (k ∷ h) r t = fan-off-kept true true (fan j) (fan k) (λ u. u) (r .0 .fans) t
 
 -- ---- the alarm is on in the second night where it is in the first, by whether the reading is the second
-abbrev on-after : Bool → Bool → Choices → List Tick → Bool
-on-after second quiet choices h = on-by second (true-delay-after (decimal 600 1) quiet (samples (sensor-input second (H choices)) h) .held) (high-after (H choices) h)
-
 on-kept : (second quiet : Bool) (choices : Choices) (g h : List Tick) → AllAccepted g → AllAccepted h → Related NoWeaker g h
-    → T (on-after second quiet choices g) → T (on-after second quiet choices h)
+    → T (on-after second quiet (H choices) g) → T (on-after second quiet (H choices) h)
 on-kept false quiet choices g h a b r t = held-kept (high-fan-off (H choices)) NoWeaker same-seconds (carried choices) (decimal 600 1) 600 delay-reached quiet g h a b r t
 on-kept true quiet choices g h a b r t =
-    let held : List Tick → Bool = λ l. true-delay-after (decimal 600 1) quiet (samples fan-off l) .held in
+    let held : List Tick → Bool = sensor-held quiet fan-off in
     let high : List Tick → Bool = high-after (H choices) in
     and-i (held h) (high h)
     (held-kept fan-off NoWeaker same-seconds fan-kept (decimal 600 1) 600 delay-reached quiet g h a b r (and-l (held g) (high g) t))

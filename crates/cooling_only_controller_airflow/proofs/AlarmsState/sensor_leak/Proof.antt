@@ -1,7 +1,7 @@
 -- `cooling_only_controller_airflow::AlarmsState::sensor_leak` meets its contract. Assumes nothing.
-use mathlib.Core.Bool.{not, _&&_}
+use mathlib.Core.Bool.{not, _&&_, _||_}
 use lib.Ieee.{ofBits, round}
-use Rattle.f64_helpers.specs.F64.{_⊗_, decimal, if_then_else_}
+use Rattle.f64_helpers.specs.F64.{_⊗_, decimal}
 use Rattle.cdl_recurrences.specs.CdlRecurrences.{greater-hysteretic}
 use Rattle.cooling_only_controller_timing.specs.Timing.{true-delay}
 use mir.Facts.{toZ-ofZ}
@@ -45,8 +45,8 @@ returns c =
       at-airflow-sensor .alarm-level .ensures,
       at-sensor-held .output .ensures,
       at-flow-high .greater-hysteretic .ensures,
-      sensor-input-by-code second high (not fan),
-      sensor-on-by-code second high (true-delay (self .«sensor_delay») (at-start .args .t) (if second then not fan else high && not fan) (decimal 600 1) (choices .quiet) .output),
+      ← sensor-input-by-code second high (not fan),
+      ← sensor-on-by-code second high (true-delay (self .«sensor_delay») (at-start .args .t) ((second || high) && not fan) (decimal 600 1) (choices .quiet) .output),
       equals-literal (at-start .args .input .«operation_mode») 1 (record { sfits = at-occupied .struct-told .given .1 .1 .1 .0 .1 }) (lit< tt),
     )
 
