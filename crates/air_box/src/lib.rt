@@ -1,4 +1,5 @@
 // The air box: the controller's state, the last accepted time and what was chosen when it was built; building; the seven questions asked of a tick; the desk code.
+#![tactic(auto)]
 ghost use Rattle.std.specs.Prelude.{◌≡◌};
 ghost use Rattle.air_box.specs.AirBox as AirBoxes;
 
@@ -8,20 +9,20 @@ use cooling_only_controller::{ControllerInput, ControllerOutput, ControllerState
 
 // What a tick carries: its time in seconds, and the readings and settings.
 #[repr(C)]
-#[derive(Drop)]
+#[derive(Clone, Copy)]
 pub struct Tick {
     pub t: f64,
     pub input: ControllerInput,
 }
 
 // The start choice, named when a box is built.
-#[derive(Drop)]
+#[derive(Clone, Copy)]
 pub enum Start {
     Plain,
     Quiet,
 }
 
-#[derive(Drop)]
+#[derive(Clone, Copy)]
 pub struct AirBox {
     pub state: ControllerState,
     pub last_time: OptionalTime,
@@ -29,14 +30,14 @@ pub struct AirBox {
 }
 
 // What building gives: the box, or a refusal where a design flow is out of its range.
-#[derive(Drop)]
+#[derive(Clone, Copy)]
 pub enum Built {
     Box(AirBox),
     Refused,
 }
 
 // Why a tick is refused: the question that got the first "no".
-#[derive(Drop)]
+#[derive(Clone, Copy)]
 pub enum Refusal {
     NotWholeSeconds,
     TimeOutOfRange,
@@ -48,20 +49,20 @@ pub enum Refusal {
 }
 
 // A tick's answer: the ten outputs, or the refusal.
-#[derive(Drop)]
+#[derive(Clone, Copy)]
 pub enum Answer {
     Accepted(ControllerOutput),
     Refused(Refusal),
 }
 
-#[derive(Drop)]
+#[derive(Clone, Copy)]
 pub struct AirBoxStep {
     pub state: AirBox,
     pub answer: Answer,
 }
 
 // What the questions decide.
-#[derive(Drop)]
+#[derive(Clone, Copy)]
 pub enum Verdict {
     Accept,
     Refuse(Refusal),

@@ -16,7 +16,7 @@ use cooling_only_controller_timing::{SamplerState, TimerState, TrueDelayState, U
 
 // `OptionalTime`: whether there is a time, and the time. Where there is none, `time` has no meaning.
 #[repr(C)]
-#[derive(Drop)]
+#[derive(Clone, Copy)]
 pub struct OptionalTimeC {
     pub present: bool,
     pub time: f64,
@@ -51,7 +51,7 @@ impl OptionalTimeC {
 
 // `TrueDelayState`.
 #[repr(C)]
-#[derive(Drop)]
+#[derive(Clone, Copy)]
 pub struct TrueDelayC {
     pub previous_time: OptionalTimeC,
     pub previous_input: bool,
@@ -88,7 +88,7 @@ impl TrueDelayC {
 
 // `TimerState`.
 #[repr(C)]
-#[derive(Drop)]
+#[derive(Clone, Copy)]
 pub struct TimerC {
     pub entry_time: OptionalTimeC,
     pub previous_input: bool,
@@ -119,7 +119,7 @@ impl TimerC {
 
 // `TimeSuppressionState`.
 #[repr(C)]
-#[derive(Drop)]
+#[derive(Clone, Copy)]
 pub struct TimeSuppressionC {
     pub setpoint_sampler: SamplerState,
     pub previous_sample: UnitDelayState,
@@ -186,7 +186,7 @@ impl TimeSuppressionC {
 
 // `LoopPiState`.
 #[repr(C)]
-#[derive(Drop)]
+#[derive(Clone, Copy)]
 pub struct LoopPiC {
     pub integrator: f64,
     pub previous_time: OptionalTimeC,
@@ -220,7 +220,7 @@ impl LoopPiC {
 
 // `ControlLoopsState`.
 #[repr(C)]
-#[derive(Drop)]
+#[derive(Clone, Copy)]
 pub struct ControlLoopsC {
     pub cooling_enable: bool,
     pub heating_enable: bool,
@@ -274,7 +274,7 @@ impl ControlLoopsC {
 
 // `DamperState`.
 #[repr(C)]
-#[derive(Drop)]
+#[derive(Clone, Copy)]
 pub struct DamperC {
     pub supply_warm: bool,
     pub integrator: f64,
@@ -311,7 +311,7 @@ impl DamperC {
 
 // `SystemRequestsState`.
 #[repr(C)]
-#[derive(Drop)]
+#[derive(Clone, Copy)]
 pub struct SystemRequestsC {
     pub hot_three: bool,
     pub hot_two: bool,
@@ -389,7 +389,7 @@ impl SystemRequestsC {
 
 // `AlarmsState`.
 #[repr(C)]
-#[derive(Drop)]
+#[derive(Clone, Copy)]
 pub struct AlarmsC {
     pub fan_armed: TrueDelayC,
     pub setpoint_nonzero: bool,
@@ -456,7 +456,7 @@ impl AlarmsC {
 
 // The states from the control loops to the damper, which one call of the controller runs.
 #[repr(C)]
-#[derive(Drop)]
+#[derive(Clone, Copy)]
 pub struct AirflowC {
     pub control_loops: ControlLoopsC,
     pub setpoints: SetpointsState,
@@ -486,7 +486,7 @@ impl AirflowC {
 
 // Beside the state: the time of the last accepted tick, and what was chosen when the box was built.
 #[repr(C)]
-#[derive(Drop)]
+#[derive(Clone, Copy)]
 pub struct LastTickC {
     pub time: OptionalTimeC,
     pub choices: Choices,
@@ -494,7 +494,7 @@ pub struct LastTickC {
 
 // `AirBox`. The stages stand in the order in which a tick goes through them.
 #[repr(C)]
-#[derive(Drop)]
+#[derive(Clone, Copy)]
 pub struct AirBoxC {
     pub time_suppression: TimeSuppressionC,
     pub airflow: AirflowC,
@@ -504,7 +504,7 @@ pub struct AirBoxC {
 }
 
 // The number that building gives, and the record of a box with these choices, which is stored only where the number is 0.
-#[derive(Drop)]
+#[derive(Clone, Copy)]
 pub struct BuiltC {
     pub number: u8,
     pub state: AirBoxC,

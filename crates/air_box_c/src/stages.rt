@@ -13,14 +13,14 @@ use cooling_only_controller_airflow::{DamperOutput, SystemRequestOutput};
 use cooling_only_controller_conditioning::{ControlLoopOutput, SetpointOutput};
 
 // The number of the first question that gets a "no", 0 where none does, and what the stages begin with.
-#[derive(Drop)]
+#[derive(Clone, Copy)]
 pub struct Questioned {
     pub number: u8,
     pub next: TickStart,
 }
 
 // What is handed on: the tick and the box's choices, and then, at each stage, what it knows of those before it. Only the stages look inside.
-#[derive(Drop)]
+#[derive(Clone, Copy)]
 pub struct TickStart {
     tick: Tick,
     choices: Choices,
@@ -50,13 +50,13 @@ fn verdict_number(verdict: Verdict) -> u8
     }
 }
 
-#[derive(Drop)]
+#[derive(Clone, Copy)]
 pub struct SuppressionTick {
     pub state: TimeSuppressionC,
     pub next: AfterSuppression,
 }
 
-#[derive(Drop)]
+#[derive(Clone, Copy)]
 pub struct AfterSuppression {
     start: TickStart,
     after_suppression: bool,
@@ -81,13 +81,13 @@ impl TimeSuppressionC {
     }
 }
 
-#[derive(Drop)]
+#[derive(Clone, Copy)]
 pub struct AirflowTick {
     pub state: AirflowC,
     pub next: AfterDampers,
 }
 
-#[derive(Drop)]
+#[derive(Clone, Copy)]
 pub struct AfterDampers {
     suppression: AfterSuppression,
     loops: ControlLoopOutput,
@@ -143,13 +143,13 @@ fn airflow_ticked(suppression: AfterSuppression, steps: AirflowSteps) -> Airflow
     }
 }
 
-#[derive(Drop)]
+#[derive(Clone, Copy)]
 pub struct RequestsTick {
     pub state: SystemRequestsC,
     pub next: AfterRequests,
 }
 
-#[derive(Drop)]
+#[derive(Clone, Copy)]
 pub struct AfterRequests {
     airflow: AfterDampers,
     requests: SystemRequestOutput,
@@ -183,13 +183,13 @@ impl SystemRequestsC {
     }
 }
 
-#[derive(Drop)]
+#[derive(Clone, Copy)]
 pub struct AlarmsTick {
     pub state: AlarmsC,
     pub next: AfterAlarms,
 }
 
-#[derive(Drop)]
+#[derive(Clone, Copy)]
 pub struct AfterAlarms {
     t: f64,
     output: ControllerOutput,
@@ -221,7 +221,7 @@ impl AlarmsC {
     }
 }
 
-#[derive(Drop)]
+#[derive(Clone, Copy)]
 pub struct LastTick {
     pub state: LastTickC,
     pub output: ControllerOutput,

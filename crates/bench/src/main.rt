@@ -1,4 +1,5 @@
 // Bench cases that are run: document 01's first ticks 130, 190 and 250 and every refusal, and document 02's quiet start with low flow, which is proved too, night of a leak with low flow, and dead bands with their memory. What it prints is held to the file stdout.
+#![tactic(auto)]
 use air_box::{AirBox, AirBoxStep, Answer, Start, Tick};
 use cdl_recurrences::{DeadBandOutput, greater_hysteretic, hysteresis, less_hysteretic};
 use cooling_only_controller::ControllerInput;
@@ -114,7 +115,7 @@ fn refusals_of_readings() {
     print(b"t 0.5 with zone NaN gives", number(fresh.tick(nothing)));
 }
 
-#[derive(Drop)]
+#[derive(Clone, Copy)]
 struct Alarms {
     low_airflow: i64,
     airflow_sensor: i64,

@@ -1,11 +1,13 @@
 // What is chosen when a box is built: its start, its design flows and its reading of the airflow sensor alarm. It stays with the box, and goes with every tick from the box to the stages.
+#![tactic(auto)]
+
 ghost use Rattle.std.specs.Prelude.{◌≡◌};
 ghost use Rattle.box_choices.specs.BoxChoices as BoxChoices;
 
 // Flows in cubic metres a second. What building takes is checked there; a stage takes any.
 // The first reading of the airflow sensor alarm: flow has been high with the fan off for ten minutes. The second: the fan has been off for ten minutes, and flow is high now.
 #[repr(C)]
-#[derive(Drop)]
+#[derive(Clone, Copy)]
 pub struct Choices {
     pub quiet: bool,
     pub design_minimum_flow: f64,

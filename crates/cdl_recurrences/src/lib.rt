@@ -1,32 +1,33 @@
 // The recurrences of cdl_recurrences.rs that the controller calls, in that file's order. Where the Rust takes slices and `[0]` is read, one value goes in and one comes out.
+#![tactic(auto)]
 ghost use Rattle.std.specs.Prelude.{◌≡◌, not, T};
 ghost use Rattle.f64_helpers.specs.Seconds.{is_time};
 ghost use Rattle.cdl_recurrences.specs.CdlRecurrences as Cdl;
 ghost use Rattle.cdl_recurrences.specs.CdlPieces as CdlPieces;
 
 // `Option<f64>`, of a time: absent, or the time.
-#[derive(Drop)]
+#[derive(Clone, Copy)]
 pub enum OptionalTime {
     Absent,
     At(f64),
 }
 
 // The delay's output, and its timer in seconds.
-#[derive(Drop)]
+#[derive(Clone, Copy)]
 pub struct TrueDelayOutput {
     pub output: bool,
     pub timer: f64,
 }
 
 // A dead-band comparison's answer, and whether its memory decided it: with the other memory the same inputs would have had the other answer.
-#[derive(Drop)]
+#[derive(Clone, Copy)]
 pub struct DeadBandOutput {
     pub output: bool,
     pub decided_by_memory: bool,
 }
 
 // Whether a sample is due, and the index of the sample instant.
-#[derive(Drop)]
+#[derive(Clone, Copy)]
 pub struct SampleDue {
     pub due: bool,
     pub index: i64,

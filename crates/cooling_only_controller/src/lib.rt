@@ -1,4 +1,5 @@
 // The whole controller of cooling_only_controller.rs: its records, and `output` in its order of stages.
+#![tactic(auto)]
 ghost use Rattle.std.specs.Prelude.{◌≡◌};
 ghost use Rattle.cooling_only_controller.specs.Controller as Controller;
 ghost use Rattle.cooling_only_controller.specs.ControllerPieces as ControllerPieces;
@@ -15,7 +16,7 @@ use cooling_only_controller_conditioning::{
 };
 
 #[repr(C)]
-#[derive(Drop)]
+#[derive(Clone, Copy)]
 pub struct ControllerInput {
     pub zone_temperature: f64,
     pub cooling_setpoint: f64,
@@ -34,7 +35,7 @@ pub struct ControllerInput {
 }
 
 #[repr(C)]
-#[derive(Drop)]
+#[derive(Clone, Copy)]
 pub struct ControllerOutput {
     pub airflow_setpoint: f64,
     pub damper_command: f64,
@@ -48,7 +49,7 @@ pub struct ControllerOutput {
     pub leaking_damper_alarm: i64,
 }
 
-#[derive(Drop)]
+#[derive(Clone, Copy)]
 pub struct ControllerState {
     pub time_suppression: TimeSuppressionState,
     pub control_loops: ControlLoopsState,
@@ -59,14 +60,14 @@ pub struct ControllerState {
     pub alarms: AlarmsState,
 }
 
-#[derive(Drop)]
+#[derive(Clone, Copy)]
 pub struct ControllerStep {
     pub state: ControllerState,
     pub output: ControllerOutput,
 }
 
 // What the stages from the control loops to the damper give.
-#[derive(Drop)]
+#[derive(Clone, Copy)]
 pub struct AirflowSteps {
     pub loops: ControlLoopsStep,
     pub setpoints: SetpointsStep,

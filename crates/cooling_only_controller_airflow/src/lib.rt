@@ -1,4 +1,5 @@
 // Airflow, system requests and alarms, as in cooling_only_controller_airflow.rs.
+#![tactic(auto)]
 ghost use Rattle.std.specs.Prelude.{◌≡◌};
 ghost use Rattle.cooling_only_controller_airflow.specs.Airflow as Airflow;
 ghost use Rattle.cooling_only_controller_airflow.specs.AirflowPieces as AirflowPieces;
@@ -15,7 +16,7 @@ const DAMPER_POSITION_HYSTERESIS: f64 = 0.01;
 
 const SAMPLE_PERIOD: f64 = 120.0;
 
-#[derive(Drop)]
+#[derive(Clone, Copy)]
 pub struct DamperInput {
     pub active_minimum_flow: f64,
     pub supply_air_temperature: f64,
@@ -29,13 +30,13 @@ pub struct DamperInput {
     pub damper_override_index: i64,
 }
 
-#[derive(Drop)]
+#[derive(Clone, Copy)]
 pub struct DamperOutput {
     pub airflow_setpoint: f64,
     pub damper_command: f64,
 }
 
-#[derive(Drop)]
+#[derive(Clone, Copy)]
 pub struct DamperState {
     pub supply_warm: bool,
     pub integrator: f64,
@@ -43,7 +44,7 @@ pub struct DamperState {
     pub previous_fan: bool,
 }
 
-#[derive(Drop)]
+#[derive(Clone, Copy)]
 pub struct DamperStep {
     pub state: DamperState,
     pub output: DamperOutput,
@@ -148,7 +149,7 @@ fn damper_override(index: i64, pid_output: f64) -> f64
     }
 }
 
-#[derive(Drop)]
+#[derive(Clone, Copy)]
 pub struct SystemRequestInput {
     pub after_suppression: bool,
     pub cooling_setpoint: f64,
@@ -159,13 +160,13 @@ pub struct SystemRequestInput {
     pub damper_position: f64,
 }
 
-#[derive(Drop)]
+#[derive(Clone, Copy)]
 pub struct SystemRequestOutput {
     pub temperature: i64,
     pub pressure: i64,
 }
 
-#[derive(Drop)]
+#[derive(Clone, Copy)]
 pub struct SystemRequestsState {
     pub hot_three: bool,
     pub hot_two: bool,
@@ -183,14 +184,14 @@ pub struct SystemRequestsState {
     pub starved_seventy: bool,
 }
 
-#[derive(Drop)]
+#[derive(Clone, Copy)]
 pub struct SystemRequestsStep {
     pub state: SystemRequestsState,
     pub output: SystemRequestOutput,
 }
 
 // The memories of the temperature request after a tick, and its level.
-#[derive(Drop)]
+#[derive(Clone, Copy)]
 struct TemperatureRequestStep {
     hot_three: bool,
     hot_two: bool,
@@ -202,7 +203,7 @@ struct TemperatureRequestStep {
 }
 
 // The memories of the pressure request after a tick, and its level.
-#[derive(Drop)]
+#[derive(Clone, Copy)]
 struct PressureRequestStep {
     setpoint_sampler: SamplerState,
     discharge_sampler: SamplerState,
@@ -399,7 +400,7 @@ fn request_level(three: bool, two: bool, one: bool) -> i64
     }
 }
 
-#[derive(Drop)]
+#[derive(Clone, Copy)]
 pub struct AlarmInput {
     pub discharge_airflow: f64,
     pub active_airflow_setpoint: f64,
@@ -408,14 +409,14 @@ pub struct AlarmInput {
     pub damper_position: f64,
 }
 
-#[derive(Drop)]
+#[derive(Clone, Copy)]
 pub struct AlarmOutput {
     pub low_airflow: i64,
     pub airflow_sensor: i64,
     pub leaking_damper: i64,
 }
 
-#[derive(Drop)]
+#[derive(Clone, Copy)]
 pub struct AlarmsState {
     pub fan_armed: TrueDelayState,
     pub setpoint_nonzero: bool,
@@ -430,14 +431,14 @@ pub struct AlarmsState {
     pub leak_delay: TrueDelayState,
 }
 
-#[derive(Drop)]
+#[derive(Clone, Copy)]
 pub struct AlarmsStep {
     pub state: AlarmsState,
     pub output: AlarmOutput,
 }
 
 // The memories of the low airflow alarm after a tick, and its level.
-#[derive(Drop)]
+#[derive(Clone, Copy)]
 struct LowAirflowStep {
     fan_armed: TrueDelayState,
     setpoint_nonzero: bool,
@@ -450,7 +451,7 @@ struct LowAirflowStep {
 }
 
 // The memories of the airflow sensor alarm and the leaking damper alarm after a tick, and their levels.
-#[derive(Drop)]
+#[derive(Clone, Copy)]
 struct SensorLeakStep {
     flow_high: bool,
     sensor_delay: TrueDelayState,

@@ -1,4 +1,5 @@
 // Conditioning, ventilation and zone state, as in cooling_only_controller_conditioning.rs: latch, time suppression, PI loop, control loops, setpoints, active airflow, zone states.
+#![tactic(auto)]
 ghost use Rattle.std.specs.Prelude.{◌≡◌};
 ghost use Rattle.f64_helpers.specs.F64.{decimal, zero};
 ghost use Rattle.cdl_recurrences.specs.CdlRecurrences.{buildings_line};
@@ -40,13 +41,13 @@ const HEATING_DISTRIBUTION_EFFECTIVENESS: f64 = 0.8;
 
 // Set by a rising input, held until cleared; the clear wins.
 #[repr(C)]
-#[derive(Drop)]
+#[derive(Clone, Copy)]
 pub struct LatchState {
     pub held: bool,
     pub previous_input: bool,
 }
 
-#[derive(Drop)]
+#[derive(Clone, Copy)]
 pub struct LatchStep {
     pub state: LatchState,
     pub output: bool,
@@ -77,7 +78,7 @@ impl LatchState {
 }
 
 // Time suppression: after a change of the setpoint, requests wait for a window that grows with the distance between setpoint and zone.
-#[derive(Drop)]
+#[derive(Clone, Copy)]
 pub struct TimeSuppressionState {
     pub setpoint_sampler: SamplerState,
     pub previous_sample: UnitDelayState,
@@ -92,14 +93,14 @@ pub struct TimeSuppressionState {
     pub captured_zone: f64,
 }
 
-#[derive(Drop)]
+#[derive(Clone, Copy)]
 pub struct TimeSuppressionStep {
     pub state: TimeSuppressionState,
     pub output: bool,
 }
 
 // Whether a setpoint change is seen: the state of the three blocks that look for one, and the answer.
-#[derive(Drop)]
+#[derive(Clone, Copy)]
 struct ChangeStep {
     setpoint_sampler: SamplerState,
     previous_sample: UnitDelayState,
@@ -243,14 +244,14 @@ fn suppression_window(captured_setpoint: f64, captured_zone: f64) -> f64
 }
 
 // PI loop with anti-windup, whose integrator is reset when the trigger rises.
-#[derive(Drop)]
+#[derive(Clone, Copy)]
 pub struct LoopPiState {
     pub integrator: f64,
     pub previous_time: OptionalTime,
     pub previous_trigger: bool,
 }
 
-#[derive(Drop)]
+#[derive(Clone, Copy)]
 pub struct LoopPiStep {
     pub state: LoopPiState,
     pub output: f64,
@@ -294,13 +295,13 @@ impl LoopPiState {
 }
 
 // Heating and cooling signals.
-#[derive(Drop)]
+#[derive(Clone, Copy)]
 pub struct ControlLoopOutput {
     pub cooling: f64,
     pub heating: f64,
 }
 
-#[derive(Drop)]
+#[derive(Clone, Copy)]
 pub struct ControlLoopsState {
     pub cooling_enable: bool,
     pub heating_enable: bool,
@@ -312,14 +313,14 @@ pub struct ControlLoopsState {
     pub heating_delay: TrueDelayState,
 }
 
-#[derive(Drop)]
+#[derive(Clone, Copy)]
 pub struct ControlLoopsStep {
     pub state: ControlLoopsState,
     pub output: ControlLoopOutput,
 }
 
 // One of the two loops: its four memories after the tick, and its signal.
-#[derive(Drop)]
+#[derive(Clone, Copy)]
 struct LoopStep {
     enable: bool,
     pi: LoopPiState,
@@ -441,7 +442,7 @@ fn control_loops_step(cooling: LoopStep, heating: LoopStep) -> ControlLoopsStep
     }
 }
 
-#[derive(Drop)]
+#[derive(Clone, Copy)]
 pub struct SetpointInput {
     pub window_status: bool,
     pub occupancy_status: bool,
@@ -452,7 +453,7 @@ pub struct SetpointInput {
     pub discharge_air_temperature: f64,
 }
 
-#[derive(Drop)]
+#[derive(Clone, Copy)]
 pub struct SetpointOutput {
     pub adjusted_population_flow: f64,
     pub occupied_minimum_flow: f64,
@@ -462,12 +463,12 @@ pub struct SetpointOutput {
 
 // Whether the supply cools: the one memory of the ventilation setpoints.
 #[repr(C)]
-#[derive(Drop)]
+#[derive(Clone, Copy)]
 pub struct SetpointsState {
     pub cooling_supply: bool,
 }
 
-#[derive(Drop)]
+#[derive(Clone, Copy)]
 pub struct SetpointsStep {
     pub state: SetpointsState,
     pub output: SetpointOutput,
@@ -541,7 +542,7 @@ fn unless(off: bool, flow: f64) -> f64
     if off { 0.0 } else { flow }
 }
 
-#[derive(Drop)]
+#[derive(Clone, Copy)]
 pub struct ActiveAirflowOutput {
     pub cooling_maximum: f64,
     pub minimum: f64,
@@ -565,14 +566,14 @@ pub fn active_airflow(
 }
 
 #[repr(C)]
-#[derive(Drop)]
+#[derive(Clone, Copy)]
 pub struct ZoneStatesState {
     pub heating_signal: bool,
     pub cooling_signal: bool,
     pub heating_tiebreak: bool,
 }
 
-#[derive(Drop)]
+#[derive(Clone, Copy)]
 pub struct ZoneStatesStep {
     pub state: ZoneStatesState,
     pub output: i64,

@@ -1,4 +1,5 @@
 // The timing blocks of cooling_only_controller_timing.rs: sampler, unit delay, true delay, timer. A state goes in by value and comes back beside the output.
+#![tactic(auto)]
 ghost use Rattle.std.specs.Prelude.{◌≡◌};
 ghost use Rattle.f64_helpers.specs.F64.{if◌then◌else◌};
 ghost use Rattle.cooling_only_controller_timing.specs.Timing as Timing;
@@ -8,7 +9,7 @@ use cdl_recurrences::OptionalTime;
 
 // Periodic sampler.
 #[repr(C)]
-#[derive(Drop)]
+#[derive(Clone, Copy)]
 pub struct SamplerState {
     pub initialized: bool,
     pub t0: f64,
@@ -16,7 +17,7 @@ pub struct SamplerState {
     pub held: f64,
 }
 
-#[derive(Drop)]
+#[derive(Clone, Copy)]
 pub struct SamplerStep {
     pub state: SamplerState,
     pub output: f64,
@@ -85,7 +86,7 @@ fn sampler_first_sample(t: f64, input: f64, period: f64) -> SamplerState
 
 // Unit delay of one period: the output that it holds, and the sample staged for the next instant.
 #[repr(C)]
-#[derive(Drop)]
+#[derive(Clone, Copy)]
 pub struct UnitDelayState {
     pub initialized: bool,
     pub t0: f64,
@@ -94,7 +95,7 @@ pub struct UnitDelayState {
     pub staged: f64,
 }
 
-#[derive(Drop)]
+#[derive(Clone, Copy)]
 pub struct UnitDelayStep {
     pub state: UnitDelayState,
     pub output: f64,
@@ -161,7 +162,7 @@ impl UnitDelayState {
 }
 
 // True delay.
-#[derive(Drop)]
+#[derive(Clone, Copy)]
 pub struct TrueDelayState {
     pub previous_time: OptionalTime,
     pub previous_input: bool,
@@ -169,7 +170,7 @@ pub struct TrueDelayState {
     pub timer: f64,
 }
 
-#[derive(Drop)]
+#[derive(Clone, Copy)]
 pub struct TrueDelayStep {
     pub state: TrueDelayState,
     pub output: bool,
@@ -215,13 +216,13 @@ impl TrueDelayState {
 }
 
 // Seconds since the input last rose.
-#[derive(Drop)]
+#[derive(Clone, Copy)]
 pub struct TimerState {
     pub entry_time: OptionalTime,
     pub previous_input: bool,
 }
 
-#[derive(Drop)]
+#[derive(Clone, Copy)]
 pub struct TimerStep {
     pub state: TimerState,
     pub output: f64,

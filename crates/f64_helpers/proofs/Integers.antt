@@ -17,6 +17,7 @@ refuted false h = refl
 
 shown : (b : Bool) → T b → b ≡ true
 shown true h = refl
+shown false h = elim h [ ]
 
 pub equals_literal : (z : ℤ) (k : ℕ) → SFits w64 z → k < 2 ^ 63 → eqb (of_z w64 z) k ≡ (z ==ᶻ k)
 equals_literal (pos n) k f l = refl

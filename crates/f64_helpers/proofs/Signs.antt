@@ -30,6 +30,8 @@ zero_turned s a b z = go (eqb a b) (λ t. eq→eqb (eqb→eq a b t ∙ z))
         both : (s q : Bool) → T q → (beq (not s) false || q) ≡ (beq s false || q)
         both true true t = refl
         both false true t = refl
+        both false false t = elim t [ ]
+        both true false t = elim t [ ]
 
 -- the tests of `max`, at turned signs
 pub nan_turned : (x : Float) → is_nan (neg x) ≡ is_nan x

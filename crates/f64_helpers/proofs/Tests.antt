@@ -22,10 +22,12 @@ nan_test (fin true m e) = unfold ne is_nan in same (eqb (m * up e * down e) (m *
   where
     same : (b : Bool) → T b → not (b && true) ≡ false
     same true t = refl
+    same false t = elim t [ ]
 nan_test (fin false m e) = unfold ne is_nan in same (eqb (m * up e * down e) (m * up e * down e)) (eqb_refl (m * up e * down e))
   where
     same : (b : Bool) → T b → not (b && true) ≡ false
     same true t = refl
+    same false t = elim t [ ]
 
-pub is_nan : (x : Float) (b : Bool) → ne x x ≡ b → is_nan x ≡ b
-is_nan x b h = sym (nan_test x) ∙ h
+pub is_nan_lem : (x : Float) (b : Bool) → ne x x ≡ b → is_nan x ≡ b
+is_nan_lem x b h = sym (nan_test x) ∙ h

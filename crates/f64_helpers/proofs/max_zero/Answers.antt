@@ -7,8 +7,7 @@ use Rattle.f64_helpers.specs.Helpers.{max, negative}
 use Rattle.f64_helpers.proofs.Tests.{yes, no, and_false}
 use Rattle.f64_helpers.proofs.LargerOfTwo.{max_by_tests}
 use Rattle.f64_helpers.proofs.Order.{le_numbers, lt→le, eq→le, not_both, lt_is_not_le}
-use Rattle.f64_helpers.proofs.max_zero.Statement.{statement}
-use Rattle.f64_helpers.proofs.max_zero.Tie as tie
+use Rattle.f64_helpers.proofs.max_zero.Goals as goal
 
 off : (b : Bool) → T (not b) → b ≡ false
 off false h = refl
@@ -31,13 +30,10 @@ not_above x h = by (is_nan x) (lt x zero) (eq x zero) refl refl refl
     by false false true N L A = ap (λ (s : Bool). fin s 0 (pos 0)) (sym (and_false (negative x))) ∙ max_by_tests x zero false false true true N L A refl
     by false false false N L A = absurd (subst T (λ i. not (not (L i || A i))) (subst (λ (b : Bool). T (not b)) (lt_is_not_le zero x tt (no N)) h))
 
-returns : tie.Need-returns
+pub returns-then-x : goal.returns-then-x
 unfolding of_bits
-returns c = above c.before.args.x (yes c.if1.true)
+returns-then-x c = above c.args.x (yes c.if-x.true)
 
-returns-2 : tie.Need-returns-2
+pub returns-else-x : goal.returns-else-x
 unfolding of_bits
-returns-2 c = not_above c.before.args.x (no c.if1.false)
-
-pub max_zero_spec : {M : Type 1} → statement M
-max_zero_spec = tie.close (tie.spec returns returns-2)
+returns-else-x c = not_above c.args.x (no c.if-x.false)
