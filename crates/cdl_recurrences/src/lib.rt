@@ -1,5 +1,6 @@
 // The recurrences of cdl_recurrences.rs that the controller calls, in that file's order. Where the Rust takes slices and `[0]` is read, one value goes in and one comes out.
 #![tactic(auto)]
+
 ghost use Rattle.std.specs.Prelude.{◌≡◌, not, T};
 ghost use Rattle.f64_helpers.specs.Seconds.{is_time};
 ghost use Rattle.cdl_recurrences.specs.CdlRecurrences as Cdl;
