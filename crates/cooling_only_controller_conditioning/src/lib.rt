@@ -1,5 +1,6 @@
 // Conditioning, ventilation and zone state, as in cooling_only_controller_conditioning.rs: latch, time suppression, PI loop, control loops, setpoints, active airflow, zone states.
 #![tactic(auto)]
+
 ghost use Rattle.std.specs.Prelude.{◌≡◌};
 ghost use Rattle.f64_helpers.specs.F64.{decimal, zero};
 ghost use Rattle.cdl_recurrences.specs.CdlRecurrences.{buildings_line};
