@@ -1,5 +1,6 @@
 // Airflow, system requests and alarms, as in cooling_only_controller_airflow.rs.
 #![tactic(auto)]
+
 ghost use Rattle.std.specs.Prelude.{◌≡◌};
 ghost use Rattle.cooling_only_controller_airflow.specs.Airflow as Airflow;
 ghost use Rattle.cooling_only_controller_airflow.specs.AirflowPieces as AirflowPieces;
