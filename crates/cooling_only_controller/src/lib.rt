@@ -1,5 +1,6 @@
 // The whole controller of cooling_only_controller.rs: its records, and `output` in its order of stages.
 #![tactic(auto)]
+
 ghost use Rattle.std.specs.Prelude.{◌≡◌};
 ghost use Rattle.cooling_only_controller.specs.Controller as Controller;
 ghost use Rattle.cooling_only_controller.specs.ControllerPieces as ControllerPieces;

@@ -20,9 +20,7 @@ use Rattle.cooling_only_controller_airflow.specs.declared.DamperStep.{DamperStep
 use Rattle.cooling_only_controller.specs.declared.AirflowSteps.{AirflowSteps}
 use Rattle.cooling_only_controller.specs.declared.ControllerInput.{ControllerInput}
 use Rattle.cooling_only_controller.specs.ControllerPieces.{airflow_steps, setpoint_input, damper_input}
-use borrow.Author.Rules.{rules}
-use Rattle.cooling_only_controller.proofs.airflow_steps.Statement.{statement}
-use Rattle.cooling_only_controller.proofs.airflow_steps.Tie as tie
+use Rattle.cooling_only_controller.proofs.airflow_steps.Goals as goal
 
 -- the steps, each equal to its definition on what the stages before it gave
 steps_from : (t : Float) (input : ControllerInput) (choices : Choices) (l : ControlLoopsState) (s : SetpointsState) (z : ZoneStatesState) (d : DamperState)
@@ -44,39 +42,23 @@ steps_from : (t : Float) (input : ControllerInput) (choices : Choices) (l : Cont
 unfolding airflow_steps
 steps_from t input choices l s z d loops wanted_setpoints flows active zone_step wanted_flow air e1 e2 e3 e4 e5 e6 e7 = rw (e7, e6, e5, e4, e3, e2, e1)
 
-returns : tie.Need-returns
+pub returns : goal.returns
 returns c =
-    let at_damper_input = c.before in
-    let at_zone_state = at_damper_input.before in
-    let at_zone = at_zone_state.before in
-    let at_active = at_zone.before in
-    let at_mode = at_active.before in
-    let at_minimum = at_mode.before in
-    let at_flows = at_minimum.before in
-    let at_setpoint_input = at_flows.before in
-    let at_loop_output = at_setpoint_input.before in
-    let at_loops = at_loop_output.before in
-    let at_start = at_loops.before in
-    let a = at_start.args in
-    let mode = to_z-of_z {w = w64} {z = a.input.operating_mode} (record { sfits = at_mode.struct_told.given.1.1.1.1.1.0.1 }) in
-    let zone_is = to_z-of_z {w = w64} {z = at_zone.output3.result.output} (record { sfits = at_zone_state.struct-told2.given.1.0.1 }) in
-    steps_from a.t a.input a.choices a.control-loops a.setpoints a.zone-states a.dampers
-    at_loops.output.result
-    at_setpoint_input.setpoint-input.result
-    at_flows.output2.result
-    at_active.active-airflow.result
-    at_zone.output3.result
-    at_damper_input.damper-input.result
-    c.output4.result
-    at_loops.output.ensures
-    at_setpoint_input.setpoint-input.ensures
-    at_flows.output2.ensures
-    (rw mode at at_active.active-airflow.ensures)
-    at_zone.output3.ensures
-    (rw zone_is at at_damper_input.damper-input.ensures)
-    c.output4.ensures
-
-pub airflow_steps_spec : {M : Type 1} → statement M
-airflow_steps_spec =
-    tie.close (tie.spec (λ c κs. search rules) (λ c κs. search rules) (λ c κs. search rules)
-    (λ c κs. search rules) (λ c κs. search rules) (λ c κs. search rules) (λ c κs. search rules) returns)
+    let a = c.args in
+    let mode = to_z-of_z {w = w64} {z = a.input.operating_mode} (record { sfits = c.struct_told-1.given.1.1.1.1.1.0.1 }) in
+    let zone_is = to_z-of_z {w = w64} {z = c.output-zone.result.output} (record { sfits = c.struct_told-2-1.given.1.0.1 }) in
+    steps_from a.t a.input a.choices a.control_loops a.setpoints a.zone_states a.dampers
+    c.output-loops.result
+    c.setpoint_input.result
+    c.output-flows.result
+    c.active_airflow-active.result
+    c.output-zone.result
+    c.damper_input-damper_input.result
+    c.output-damper.result
+    c.output-loops.ensures
+    c.setpoint_input.ensures
+    c.output-flows.ensures
+    (rw mode at c.active_airflow-active.ensures)
+    c.output-zone.ensures
+    (rw zone_is at c.damper_input-damper_input.ensures)
+    c.output-damper.ensures

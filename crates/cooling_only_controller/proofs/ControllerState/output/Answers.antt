@@ -15,9 +15,7 @@ use Rattle.cooling_only_controller.specs.declared.ControllerState.{ControllerSta
 use Rattle.cooling_only_controller.specs.Controller.{controller_output}
 use Rattle.cooling_only_controller.specs.ControllerPieces.{airflow_steps, request_input, alarm_input, controller_step}
 use Rattle.cooling_only_controller.proofs.ByPieces.{controller_by_pieces}
-use borrow.Author.Rules.{rules}
-use Rattle.cooling_only_controller.proofs.ControllerState.output.Statement.{statement}
-use Rattle.cooling_only_controller.proofs.ControllerState.output.Tie as tie
+use Rattle.cooling_only_controller.proofs.ControllerState.output.Goals as goal
 
 -- the whole from its stages, each equal to its definition on what the stages before it gave
 whole_from : (s : ControllerState) (t : Float) (input : ControllerInput) (choices : Choices)
@@ -37,38 +35,20 @@ whole_from : (s : ControllerState) (t : Float) (input : ControllerInput) (choice
 whole_from s t input choices after air wanted_requests requests wanted_alarms alarms_now e1 e2 e3 e4 e5 e6 =
     rw (e6, e5, e4, e3, e2, e1) (controller_by_pieces s t input choices)
 
-returns : tie.Need-returns
+pub returns : goal.returns
 returns c =
-    let at_alarms = c.before in
-    let at_alarm_input = at_alarms.before in
-    let at_requests = at_alarm_input.before in
-    let at_wanted = at_requests.before in
-    let at_flow = at_wanted.before in
-    let at_loop_output = at_flow.before in
-    let at_air = at_loop_output.before in
-    let at_dampers = at_air.before in
-    let at_zone = at_dampers.before in
-    let at_setpoints = at_zone.before in
-    let at_loops = at_setpoints.before in
-    let at_after_suppression = at_loops.before in
-    let at_start = at_after_suppression.before in
-    let a = at_start.args in
-    c.controller-step.ensures
+    let a = c.args in
+    c.controller_step.ensures
     ∙ whole_from a.self a.t a.input a.choices
-    at_after_suppression.output.result
-    at_air.airflow-steps.result
-    at_wanted.request-input.result
-    at_requests.output2.result
-    at_alarm_input.alarm-input.result
-    at_alarms.output3.result
-    at_after_suppression.output.ensures
-    at_air.airflow-steps.ensures
-    at_wanted.request-input.ensures
-    at_requests.output2.ensures
-    at_alarm_input.alarm-input.ensures
-    at_alarms.output3.ensures
-
-pub output_spec : {M : Type 1} → statement M
-output_spec =
-    tie.close (tie.spec (λ c κs. search rules) (λ c κs. search rules) (λ c κs. search rules)
-    (λ c κs. search rules) (λ c κs. search rules) (λ c κs. search rules) (λ c κs. search rules) returns)
+    c.output-after_suppression.result
+    c.airflow_steps-air.result
+    c.request_input-wanted.result
+    c.output-requests.result
+    c.alarm_input.result
+    c.output-alarms.result
+    c.output-after_suppression.ensures
+    c.airflow_steps-air.ensures
+    c.request_input-wanted.ensures
+    c.output-requests.ensures
+    c.alarm_input.ensures
+    c.output-alarms.ensures
