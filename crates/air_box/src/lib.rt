@@ -1,5 +1,6 @@
 // The air box: the controller's state, the last accepted time and what was chosen when it was built; building; the seven questions asked of a tick; the desk code.
 #![tactic(auto)]
+
 ghost use Rattle.std.specs.Prelude.{◌≡◌};
 ghost use Rattle.air_box.specs.AirBox as AirBoxes;
 
