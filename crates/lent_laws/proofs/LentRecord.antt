@@ -65,7 +65,7 @@ module _ (S I N : PlainType) (Fin : Data S → Data I → Data S → Data N → 
     -- exit: written by tools/walks/write
     -- what is held at the end: the result, the record at its new value, and what came in
     abbrev held : Data S → Data N → Val → List (Item 𝓤)
-    held h' y v = ‵ ((row N).own y (v ∷ [])) ∷ ‵ (fobs γ ((row S).coded.code h')) ∷ ‵ (fbor κ (Body (mem (row S)) b o γ)) ∷ ‵ (flft κ q) ∷ []
+    held h' y v = ‵ ((row N).own_val y (v ∷ [])) ∷ ‵ (fobs γ ((row S).coded.code h')) ∷ ‵ (fbor κ (Body (mem (row S)) b o γ)) ∷ ‵ (flft κ q) ∷ []
 
     pub lent_exit : Is (row I) i (I.val i ∷ []) → (h' : Data S) (y : Data N) (v : Val) → Fin h i h' y → ent 𝓤 (⋆ 𝓛 (held h' y v)) (lent_post v)
     lent_exit is_i h' y v e =
