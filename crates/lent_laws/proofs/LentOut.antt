@@ -13,7 +13,7 @@ use lib.Dec.{T, eqb}
 use Prim.Native.Nat.{ℕ}
 use mathlib.Core.List.{[], ◌∷◌, List}
 use seplogic.Ra.Ura.{Ura}
-use seplogic.Ra.TreeShare.{full_share}
+use base.Fraction.{full_share}
 use mir.Syntax.{Fn, Body as Code, local, value_local, named, mut, imm, w8, ty_bool, ty_int, ty_ref, place, deref, field, copy, int, eq, op2, rv_opd, seq, assign, call, cond, skip, return}
 use mir.Raw.{raw as raw_ty}
 use mir.Val.{Val, vptr}

@@ -9,8 +9,8 @@ use lib.Dec.{T, eqb}
 use Prim.Native.Nat.{ℕ}
 use mathlib.Core.List.{[], ◌∷◌}
 use seplogic.Ra.Ura.{Ura}
-use seplogic.Ra.TreeShare.{full_share}
-use mir.Syntax.{Name, Fn, Body as Code, local, value_local, named, mut, w8, ty_bool, ty_int, ty_ref, place, deref, field, copy, int, eq, op2, rv_opd, seq, assign, call, cond, skip, return}
+use base.Fraction.{full_share}
+use mir.Syntax.{Callee, Fn, Body as Code, local, value_local, named, mut, w8, ty_bool, ty_int, ty_ref, place, deref, field, copy, int, eq, op2, rv_opd, seq, assign, call, cond, skip, return}
 use mir.Val.{Val, vptr}
 use base.Fml.{GName, Lft, Share, fat}
 use prog.Wp.{Env, Calls, Loops, Tables}
@@ -30,7 +30,7 @@ use Rattle.lent_laws.proofs.ByValue.{ByValue, lone_is, calls_by_value}
 
 module _ (S I : PlainType) (P : Two of_u8 S) (L : TwoLaws of_u8 S P) (Out : Data I → P.X → Type 0) (Fin : Data S → Data I → Data S → ℕ → Type 0)
     (law_taken : (h : Data S) (i : Data I) (a : P.X) → Out i a → T (eqb (P.first a) 0) → Fin h i (P.second a) (P.first a))
-    (law_left : (h : Data S) (i : Data I) (a : P.X) → Out i a → T (not (eqb (P.first a) 0)) → Fin h i h (P.first a)) (k : Name) where
+    (law_left : (h : Data S) (i : Data I) (a : P.X) → Out i a → T (not (eqb (P.first a) 0)) → Fin h i h (P.first a)) (k : Callee) where
   abbrev O : Shape
   O = two_shape of_u8 S P
 

@@ -6,8 +6,8 @@ use mathlib.Core.Path.{refl}
 use Prim.Native.Nat.{ℕ}
 use mathlib.Core.List.{[], ◌∷◌}
 use seplogic.Ra.Ura.{Ura}
-use seplogic.Ra.TreeShare.{full_share}
-use mir.Syntax.{Name, Fn, local, value_local, named, mut, ty_ref, place, deref, field, copy, rv_opd, seq, assign, call, return}
+use base.Fraction.{full_share}
+use mir.Syntax.{Callee, Fn, local, value_local, named, mut, ty_ref, place, deref, field, copy, rv_opd, seq, assign, call, return}
 use mir.Val.{Val, vptr}
 use base.Fml.{GName, Lft, Share, fat}
 use prog.Wp.{Calls, Loops, Tables}
@@ -26,7 +26,7 @@ use Rattle.lent_laws.proofs.LentRecord.{lent_entry, LentWalk, lent_exit, LentMee
 use Rattle.lent_laws.proofs.ByValue.{ByValue₂, lone_is, calls_by_value}
 
 module _ (S I N : PlainType) (P : Two S N) (L : TwoLaws S N P) (Out : Data S → Data I → P.X → Type 0) (Fin : Data S → Data I → Data S → Data N → Type 0)
-    (law : (h : Data S) (i : Data I) (r : P.X) → Out h i r → Fin h i (P.first r) (P.second r)) (k : Name) where
+    (law : (h : Data S) (i : Data I) (r : P.X) → Out h i r → Fin h i (P.first r) (P.second r)) (k : Callee) where
   abbrev O : Shape
   O = two_shape S N P
 

@@ -4,9 +4,9 @@ use mathlib.Core.Path.{◌≡◌, refl, sym, subst}
 use Prim.Native.Nat.{ℕ}
 use mathlib.Core.List.{[], ◌∷◌, List}
 use seplogic.Ra.Ura.{Ura}
-use seplogic.Ra.TreeShare.{full_share}
+use base.Fraction.{full_share}
 use mathlib.Core.Option.{some}
-use mir.Syntax.{Name, Sym, Ty, Tys, Step, ty_struct, Body as Code, place, deref, field, copy, rv_opd, seq, assign, call}
+use mir.Syntax.{Callee, Sym, Ty, Tys, Step, ty_struct, Body as Code, place, deref, field, copy, rv_opd, seq, assign, call}
 use mir.Fields.{get_v, set_v}
 use mir.Val.{Val, Vals, vptr, vstruct}
 use base.Fml.{froom, fat}
@@ -34,7 +34,7 @@ module _ {M : Type 1} {𝓤 : Ura M} {𝓛 : Logic 𝓤} {Γ : List (Item 𝓤)}
   read_as {τ} {b} {o} e r = subst (λ (z : Val). Reads (Go {0}) 𝓛 Γ τ b o z) e r
 
 -- field j of the record behind the local 1 is read into the local t, run on the second field of c by the function k into r, and the first field of r is stored
-abbrev pub runs_part : Ty → ℕ → ℕ → ℕ → ℕ → Name → Code → Code
+abbrev pub runs_part : Ty → ℕ → ℕ → ℕ → ℕ → Callee → Code → Code
 runs_part τ j t c r k then = seq (assign (place t []) (rv_opd (copy (place 1 (deref τ ∷ field j ∷ []))))) (seq (call k (copy (place t []) ∷ copy (place c (field 1 ∷ [])) ∷ []) (place r []))
     (seq (assign (place 1 (deref τ ∷ field j ∷ [])) (rv_opd (copy (place r (field 0 ∷ []))))) then))
 
