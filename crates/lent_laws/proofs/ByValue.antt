@@ -1,6 +1,6 @@
 -- Functions by value: the contract of one as a relation of the parameters and the result, and a call of it, over the list of its parameters.
 --     ByValue           the contract, and ByValue₂ that of two parameters
---     calls-by-value    the call
+--     calls_by_value    the call
 --     Stage             such a function of two parameters that returns a struct of two fields
 use mathlib.Core.Path.{◌≡◌}
 use mathlib.Core.List.{[], ◌∷◌, List}

@@ -1,7 +1,7 @@
 -- Functions that take a record by `&mut` and an input by value, `fn f(w: &mut S, i: I) -> N`: the contract of one as a relation of the
 -- record and the input on entry, the record at exit and the result; and that a function whose code is walked meets it. Assumes nothing.
 --     LentWalk     what a walk of the code shows, from `lent_entry`; `lent_exit` ends it
---     lent-meets   the contract from the walk
+--     lent_meets   the contract from the walk
 -- The marked part is written by tools/walks/write, from the names in LentRecord.walk there.
 use mathlib.Core.Path.{refl}
 use Prim.Native.Nat.{ℕ}

@@ -1,6 +1,6 @@
 -- Plain types, with what the check proves of them: numbers, bools, floats, structs and enums, with no reference inside.
 --     PlainType        `of_struct`, `of_enum`, `of_u8`
---     Two, two-laws    a declared struct of two fields, and its laws from what the check proves of it
+--     Two, two_laws    a declared struct of two fields, and its laws from what the check proves of it
 --     Five             a declared struct of five fields
 use Prim.Native.Nat.{ℕ}
 use mathlib.Core.List.{[], ◌∷◌, List}
@@ -19,9 +19,9 @@ use denote.Copied.{uint_Copied}
 use denote.Builtin.{u8}
 use denote.Plain.{uint_Tells, uint_Lawful, uint_Makes, uint_copy}
 use denote.Struct.Struct.{Plains, layout}
-use denote.Struct.Declared.{Declared, fields, shape, row as Struct-Row}
+use denote.Struct.Declared.{Declared, fields, shape, row as struct_row}
 use denote.Struct.Laws as Struct
-use denote.Enum.Enum.{Plainss, Few, layout as enum-layout}
+use denote.Enum.Enum.{Plainss, Few, layout as enum_layout}
 use denote.Enum.Declared as enum
 use denote.Enum.Laws as Enum
 
@@ -46,12 +46,13 @@ pub record PlainType : Type 2 where
   pub lawful : {M : Type 1} {𝓤 : Ura M} (𝓛 : Logic 𝓤) → Lawful 𝓛 (row_of shape)
   pub makes : {M : Type 1} {𝓤 : Ura M} (𝓛 : Logic 𝓤) → Makes 𝓛 (row_of shape) (Is (row_of shape))
   pub copies : {M : Type 1} {𝓤 : Ura M} (𝓛 : Logic 𝓤) → Copy 𝓛 (row_of shape)
+  -- a `&` to it is looked into
   pub opens : {M : Type 1} {𝓤 : Ura M} (𝓛 : Logic 𝓤) → Opens 𝓛 (row_of shape)
 
 -- a declared struct, from what the check makes of it: `of_struct S.the_type S'.the_laws S'.the_plain S'.the_copy`
 abbrev pub of_struct : (T : Declared) → Struct.Laws T → Plains (fields T) → Struct.Copyables T.parts → PlainType
 of_struct T L pl cs = record {
-  shape = record { X = T.D; τ = layout (shape T); written = (Struct-Row T).written; reaches = (Struct-Row T).reaches; lives = (Struct-Row T).lives; own = (Struct-Row T).own_val; coded = (Struct-Row T).coded; shr_at = (Struct-Row T).shr_at };
+  shape = record { X = T.D; τ = layout (shape T); written = (struct_row T).written; reaches = (struct_row T).reaches; lives = (struct_row T).lives; own = (struct_row T).own_val; coded = (struct_row T).coded; shr_at = (struct_row T).shr_at };
   val = Struct.val T L;
   tells = Struct.tells T L;
   lawful = λ 𝓛. record { typed = (Struct.lawful T L 𝓛).typed };
@@ -63,7 +64,7 @@ of_struct T L pl cs = record {
 -- a declared enum, likewise
 abbrev pub of_enum : (T : enum.Declared) → Enum.Laws T → Few (enum.shape T) → Plainss (enum.variants T) → Enum.Copyabless T.parts → PlainType
 of_enum T L few pl cs = record {
-  shape = record { X = T.D; τ = enum-layout (enum.shape T); written = (enum.row T).written; reaches = (enum.row T).reaches; lives = (enum.row T).lives; own = (enum.row T).own_val; coded = (enum.row T).coded; shr_at = (enum.row T).shr_at };
+  shape = record { X = T.D; τ = enum_layout (enum.shape T); written = (enum.row T).written; reaches = (enum.row T).reaches; lives = (enum.row T).lives; own = (enum.row T).own_val; coded = (enum.row T).coded; shr_at = (enum.row T).shr_at };
   val = Enum.val T L;
   tells = Enum.tells T L;
   lawful = λ 𝓛. record { typed = (Enum.lawful T L 𝓛 few).typed };
@@ -104,7 +105,7 @@ pub record Two (S N : PlainType) : Type 2 where
 
 -- of a declared struct T, by its two fields
 abbrev pub two_of : (S N : PlainType) (T : Declared) → (T.D → Data S) → (T.D → Data N) → Two S N
-two_of S N T first second = record { name = T.name; X = T.D; first = first; second = second; written = (Struct-Row T).written; reaches = (Struct-Row T).reaches; lives = (Struct-Row T).lives; own = (Struct-Row T).own_val; coded = (Struct-Row T).coded; shr_at = (Struct-Row T).shr_at }
+two_of S N T first second = record { name = T.name; X = T.D; first = first; second = second; written = (struct_row T).written; reaches = (struct_row T).reaches; lives = (struct_row T).lives; own = (struct_row T).own_val; coded = (struct_row T).coded; shr_at = (struct_row T).shr_at }
 
 module _ (S N : PlainType) (P : Two S N) where
   abbrev pub two_shape : Shape
