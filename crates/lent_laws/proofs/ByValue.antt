@@ -1,11 +1,11 @@
 -- Functions by value: the contract of one as a relation of the parameters and the result, and a call of it, over the list of its parameters.
 --     ByValue           the contract, and ByValue₂ that of two parameters
---     calls-by-value    the call
+--     calls_by_value    the call
 --     Stage             such a function of two parameters that returns a struct of two fields
 use mathlib.Core.Path.{◌≡◌}
 use mathlib.Core.List.{[], ◌∷◌, List}
 use seplogic.Ra.Ura.{Ura}
-use mir.Syntax.{Name, Place, Opd as Operand, Body as Code, seq, call}
+use mir.Syntax.{Callee, Place, Opd as Operand, Body as Code, seq, call}
 use mir.Val.{Val}
 use base.Logic.{SProp, ent, sep, emp, via, mono∗, emp∗, snd∗, ex_e, id⊢}
 use base.Fml.{ftrue}
@@ -103,7 +103,7 @@ module _ (Ps : List PlainType) (R : Shape) (φ : Datas Ps → R.X → Type 0) {M
       (via 𝓤 (sep 𝓤 (emp 𝓤) (emp 𝓤)) (emp∗ 𝓤 (emp 𝓤)) (mono∗ 𝓤 (id⊢ 𝓤 (emp 𝓤)) (owns_make 𝓛 (rows Ps) (Ises (rows Ps)) (makes_all 𝓛 Ps) a (values Ps a) are)))
       (id⊢ 𝓤 (emp 𝓤)))
 
-  pub calls_by_value : {C : Calls 𝓤 H} {Λ : Loops 𝓤 H} (fm : FmC 𝓤 H 𝓛.laws C) {k : Name} → Triple 𝓤 (C k) (ByValue Ps R φ 𝓛)
+  pub calls_by_value : {C : Calls 𝓤 H} {Λ : Loops 𝓤 H} (fm : FmC 𝓤 H 𝓛.laws C) {k : Callee} → Triple 𝓤 (C k) (ByValue Ps R φ 𝓛)
       → {Γ : List (Item 𝓤)} {E : Env 𝓤 H} {q : Kit.Post 𝓤 H} {d : Place} {xs : List Operand} {rest : Code} → Opds (Go {0}) 𝓛 (passing ∷ Γ) E xs (flat (rows Ps) (values Ps a))
       → ((r : R.X) (v : Val) → φ a r → Is (row_of R) r (v ∷ []) → Sq 𝓛 (‵ (R.own r (v ∷ [])) ∷ Γ) (lands C Λ E d v rest q))
       → Sq 𝓛 Γ (runs C Λ E (seq (call k xs d) rest) q)
@@ -120,10 +120,10 @@ pub record Stage (P X Q Y : PlainType) : Type 2 where
   pub gives : Two Q Y
   pub laws : TwoLaws Q Y gives
   pub does : Data P → Data X → gives.X → Type 0
-  pub name : Name
+  pub name : Callee
 
 -- by a declared struct T
-abbrev pub stage_of : (P X Q Y : PlainType) (T : Declared) (first : T.D → Data Q) (second : T.D → Data Y) → TwoLaws Q Y (two_of Q Y T first second) → (Data P → Data X → T.D → Type 0) → Name → Stage P X Q Y
+abbrev pub stage_of : (P X Q Y : PlainType) (T : Declared) (first : T.D → Data Q) (second : T.D → Data Y) → TwoLaws Q Y (two_of Q Y T first second) → (Data P → Data X → T.D → Type 0) → Callee → Stage P X Q Y
 stage_of P X Q Y T first second laws does name = record { gives = two_of Q Y T first second; laws = laws; does = does; name = name }
 
 abbrev pub StageMeets : (P X Q Y : PlainType) → Stage P X Q Y → {M : Type 1} {𝓤 : Ura M} (𝓛 : Logic 𝓤) → Contract 𝓤

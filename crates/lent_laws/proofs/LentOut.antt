@@ -13,12 +13,12 @@ use lib.Dec.{T, eqb}
 use Prim.Native.Nat.{ℕ}
 use mathlib.Core.List.{[], ◌∷◌, List}
 use seplogic.Ra.Ura.{Ura}
-use seplogic.Ra.TreeShare.{full_share}
+use base.Fraction.{full_share}
 use mir.Syntax.{Fn, Body as Code, local, value_local, named, mut, imm, w8, ty_bool, ty_int, ty_ref, place, deref, field, copy, int, eq, op2, rv_opd, seq, assign, call, cond, skip, return}
 use mir.Raw.{raw as raw_ty}
 use mir.Val.{Val, vptr}
 use base.Logic.{SProp, ent, emp, via, fst∗}
-use base.Fml.{GName, Lft, Share, ftrue, flft, fobs, fbor, fres, fshr_bor, fat}
+use base.Fml.{GName, Lft, Share, ftrue, flft, fobs, fbor, fat}
 use prog.Wp.{Env, Calls, Loops, WpFn, Tables}
 use types.Logic.{Logic}
 use contract.Monad.{fact}
@@ -29,8 +29,8 @@ use types.SemTy.{Body}
 use sound.WpLaws.{FmC, fm_of, WpFn-mono}
 use denote.RattleType.{owns}
 use denote.Laws.{Is, shows}
-use denote.Memory.{mem, pointee, part_at}
-use denote.Ref.{MutBor, MutRef, ShrRef, shr_vals, mut_Tells, shr_Tells}
+use denote.Memory.{mem, pointee, hidden_shr}
+use denote.Ref.{MutBor, Bor, MutRef, ShrRef, mut_vals, shr_vals, mut_Tells, shr_Tells}
 use denote.Signature.{Signature, plain, mut_ref_to, shr_ref_to}
 use denote.Steps.{looks, shuts, opens, closes, owned, peeks, nothing}
 use denote.Struct.Steps.{spelt}
@@ -38,7 +38,7 @@ use denote.Triple.Statement.{Triple}
 use denote.Triple.Clauses.{Ended, Clauses, closing}
 use denote.Triple.Entry.{on_entry}
 use denote.Triple.Spec.{Meets}
-use denote.Triple.Walked.{says, Stays, stay_ref, stay_none_ref, walk_of, AllGo, Goes-none_ref, Goes-ref, Walks, ends_at, walked, walk_Meets}
+use denote.Triple.Walked.{says, Stays, stay_ref, stay_none_ref, walk_of, AllGo, Goes-none_ref, Goes-ref, ends_at, walked, walk_Meets}
 use denote.Exit.{yes}
 use Rattle.lent_laws.proofs.PlainTypes.{Shape, row_of, PlainType, of_u8, row, Data, two_shape, two_val, Five, five_shape, five_val, FiveLaws}
 use Rattle.lent_laws.proofs.ByValue.{lone_is, calls_by_value, Stage, StageMeets}
@@ -80,19 +80,21 @@ module _ (P₀ P₁ P₂ P₃ L I O X₀ X₁ X₂ X₃ X₄ : PlainType) (F : F
   function_out = record {
     lifetimes = 3;
     outlives = [];
+    ty_params = [];
+    givens = 0;
     params = 3;
-    locals = local (ty_int w8) value_local ∷ local (ty_ref (named 0) mut (pointee R.written)) value_local ∷ local (ty_ref (named 1) imm (pointee I.shape.written)) value_local ∷ local (ty_ref (named 2) mut (pointee O.shape.written)) value_local ∷ local (two_shape of_u8 X₀ ask.gives).τ value_local ∷ local (two_shape P₀ X₁ s₀.gives).τ value_local ∷ local (two_shape P₁ X₂ s₁.gives).τ value_local ∷ local (two_shape P₂ X₃ s₂.gives).τ value_local ∷ local (two_shape P₃ X₄ s₃.gives).τ value_local ∷ local (two_shape L O s₄.gives).τ value_local ∷ local L.shape.τ value_local ∷ local I.shape.τ value_local ∷ local ty_bool value_local ∷ local P₀.shape.τ value_local ∷ local P₁.shape.τ value_local ∷ local P₂.shape.τ value_local ∷ local P₃.shape.τ value_local ∷ local L.shape.τ value_local ∷ [];
+    locals = local (ty_int w8) value_local ∷ local (ty_ref (named 0) mut (pointee R.written)) value_local ∷ local (ty_ref (named 1) imm (pointee I.shape.written)) value_local ∷ local (ty_ref (named 2) mut (pointee O.shape.written)) value_local ∷ local (two_shape of_u8 X₀ ask.gives).τ value_local ∷ local (two_shape P₀ X₁ s₀.gives).τ value_local ∷ local (two_shape P₁ X₂ s₁.gives).τ value_local ∷ local (two_shape P₂ X₃ s₂.gives).τ value_local ∷ local (two_shape P₃ X₄ s₃.gives).τ value_local ∷ local (two_shape L O s₄.gives).τ value_local ∷ local L.shape.τ value_local ∷ local I.shape.τ value_local ∷ local ty_bool value_local ∷ local P₀.shape.τ value_local ∷ local X₀.shape.τ value_local ∷ local P₀.shape.τ value_local ∷ local P₁.shape.τ value_local ∷ local X₁.shape.τ value_local ∷ local P₁.shape.τ value_local ∷ local P₂.shape.τ value_local ∷ local X₂.shape.τ value_local ∷ local P₂.shape.τ value_local ∷ local P₃.shape.τ value_local ∷ local X₃.shape.τ value_local ∷ local P₃.shape.τ value_local ∷ local L.shape.τ value_local ∷ local X₄.shape.τ value_local ∷ local L.shape.τ value_local ∷ local O.shape.τ value_local ∷ [];
     body = seq (assign (place 10 []) (rv_opd (copy (place 1 (deref R.τ ∷ field 4 ∷ [])))))
         (seq (assign (place 11 []) (rv_opd (copy (place 2 (deref I.shape.τ ∷ [])))))
         (seq (call ask.name (copy (place 10 []) ∷ copy (place 11 []) ∷ []) (place 4 []))
         (seq (assign (place 12 []) (op2 eq (copy (place 4 (field 0 ∷ []))) (int w8 0)))
         (seq (cond (copy (place 12 []))
-        (runs_part R.τ 0 13 4 5 s₀.name
-        (runs_part R.τ 1 14 5 6 s₁.name
-        (runs_part R.τ 2 15 6 7 s₂.name
-        (runs_part R.τ 3 16 7 8 s₃.name
-        (runs_part R.τ 4 17 8 9 s₄.name
-        (assign (place 3 (deref O.shape.τ ∷ [])) (rv_opd (copy (place 9 (field 1 ∷ []))))))))))
+        (runs_part R.τ 0 13 14 15 4 5 s₀.name
+        (runs_part R.τ 1 16 17 18 5 6 s₁.name
+        (runs_part R.τ 2 19 20 21 6 7 s₂.name
+        (runs_part R.τ 3 22 23 24 7 8 s₃.name
+        (runs_part R.τ 4 25 26 27 8 9 s₄.name
+        (seq (assign (place 28 []) (rv_opd (copy (place 9 (field 1 ∷ []))))) (assign (place 3 (deref O.shape.τ ∷ [])) (rv_opd (copy (place 28 []))))))))))
         skip)
         ends_out))));
   }
@@ -121,11 +123,11 @@ module _ (P₀ P₁ P₂ P₃ L I O X₀ X₁ X₂ X₃ X₄ : PlainType) (F : F
   stayed_out = (stay_ref (0 ∷ []) tt (plain (λ _. row_of R)), (stay_none_ref (1 ∷ []) tt (plain (λ _. row I)) yes, (stay_ref (2 ∷ []) tt (plain (λ _. row O)), tt)))
 
   module _ {M : Type 1} {𝓤 : Ura M} (𝓛 : Logic 𝓤) (κ κ₁ κ₂ : Lft) (q q₁ q₂ : Share)
-      (b o : ℕ) (γ : GName) (h : F.X) (b₁ o₁ : ℕ) (γ₁ : GName) (i : Data I) (b₂ o₂ : ℕ) (γ₂ : GName) (w : Data O) where
+      (b o : ℕ) (γ : GName) (h : F.X) (b₁ o₁ : ℕ) (i : Data I) (b₂ o₂ : ℕ) (γ₂ : GName) (w : Data O) where
     open 𝓛 use {H}
 
-    abbrev x_out : MutBor F.X × (MutBor (Data I) × (MutBor (Data O) × Unit {0}))
-    x_out = (record { ref_ptr = (b, o); ghost_name = γ; now = h }, (record { ref_ptr = (b₁, o₁); ghost_name = γ₁; now = i }, (record { ref_ptr = (b₂, o₂); ghost_name = γ₂; now = w }, tt)))
+    abbrev x_out : MutBor F.X × (Bor (Data I) × (MutBor (Data O) × Unit {0}))
+    x_out = (record { ref_ptr = (b, o); ghost_name = γ; now = h }, (record { ref_ptr = (b₁, o₁); now = i }, (record { ref_ptr = (b₂, o₂); ghost_name = γ₂; now = w }, tt)))
 
     abbrev at_out : List Val × (List Val × (List Val × Unit {0}))
     at_out = (vptr b o ∷ [], (vptr b₁ o₁ ∷ [], (vptr b₂ o₂ ∷ [], tt)))
@@ -136,6 +138,13 @@ module _ (P₀ P₁ P₂ P₃ L I O X₀ X₁ X₂ X₃ X₄ : PlainType) (F : F
     abbrev Post_out : Val → SProp 𝓤
     Post_out = (walk_of 𝓛 ended_out stayed_out (clauses_out 𝓤)).post given_out
 
+    -- what there is on entry: the lifetimes' tokens, and what the parameters own
+    abbrev out_entry : List (Item 𝓤)
+    out_entry = (‵ (flft κ q) ⊛ ‵ (flft κ₁ q₁) ⊛ ‵ (flft κ₂ q₂) ⊛ ‵ ftrue) ∷ ‵ (owns (MutRef (named 0) κ (row_of R) ∷ ShrRef (named 1) κ₁ (row I) ∷ MutRef (named 2) κ₂ (row O) ∷ []) x_out at_out) ∷ []
+
+    abbrev OutWalk : Calls 𝓤 H → Loops 𝓤 H → Type 1
+    OutWalk C Λ = ent 𝓤 (on_entry 𝓛 sig_out (κ, (κ₁, (κ₂, tt))) (q, (q₁, (q₂, tt))) x_out at_out) (WpFn 𝓤 H C Λ function_out (vptr b o ∷ vptr b₁ o₁ ∷ vptr b₂ o₂ ∷ []) Post_out)
+
     -- exit: written by tools/walks/write
     -- what is held at the end: the number, both records at their new values, and what came in
     abbrev held_out : F.X → Data O → ℕ → List (Item 𝓤)
@@ -143,7 +152,7 @@ module _ (P₀ P₁ P₂ P₃ L I O X₀ X₁ X₂ X₃ X₄ : PlainType) (F : F
         ∷ ‵ (fobs γ (R.coded.code h')) ∷ ‵ (fbor κ (Body (mem (row_of R)) b o γ))
         ∷ ‵ (fobs γ₂ ((row O).coded.code w')) ∷ ‵ (fbor κ₂ (Body (mem (row O)) b₂ o₂ γ₂))
         ∷ ‵ (flft κ q) ∷ ‵ (flft κ₁ q₁) ∷ ‵ (flft κ₂ q₂)
-        ∷ ‵ (fshr_bor κ₁ (λ s. part_at (row I) s i b₁ o₁)) ∷ ‵ (fres γ₁ ((row I).coded.code i)) ∷ []
+        ∷ ‵ (hidden_shr (row I) κ₁ i b₁ o₁) ∷ []
 
     exits_out : (h' : F.X) (w' : Data O) (n : ℕ) → Fin h i w h' w' n → ent 𝓤 (⋆ 𝓛 (held_out h' w' n)) (Post_out (of_u8.val n))
     exits_out h' w' n e =
@@ -152,118 +161,120 @@ module _ (P₀ P₁ P₂ P₃ L I O X₀ X₁ X₂ X₃ X₄ : PlainType) (F : F
         nothing ! $ move ! (8 ∷ 0 ∷ []) $ join ! $ move ! (7 ∷ 0 ∷ []) $ join ! $ move ! (6 ∷ 0 ∷ []) $ join ! $ frame ! $
         move ! (3 ∷ 4 ∷ []) $ feq_i ! (List Val) (vptr b₂ o₂ ∷ []) (vptr b₂ o₂ ∷ []) refl $ fjoin3 ! $
         nothing ! $ move ! (1 ∷ 0 ∷ []) $ fjoin ! $
-        move ! (5 ∷ 4 ∷ []) $ feq_i ! (List Val) (vptr b₁ o₁ ∷ []) (vptr b₁ o₁ ∷ []) refl $ fjoin3 ! $ fjoin ! $
+        move ! (4 ∷ []) $ feq_i ! (List Val) (vptr b₁ o₁ ∷ []) (vptr b₁ o₁ ∷ []) refl $ fjoin ! $ fjoin ! $
         move ! (2 ∷ 3 ∷ []) $ feq_i ! (List Val) (vptr b o ∷ []) (vptr b o ∷ []) refl $ fjoin3 ! $ fjoin ! $ done !
-
     -- exit: end
-
-    module _ (C : Calls 𝓤 H) (Λ : Loops 𝓤 H) (fm : FmC 𝓤 H 𝓛.laws C)
-        (known : Triple 𝓤 (C ask.name) (StageMeets L I of_u8 X₀ ask 𝓛)) (known₀ : Triple 𝓤 (C s₀.name) (StageMeets P₀ X₀ P₀ X₁ s₀ 𝓛))
-        (known₁ : Triple 𝓤 (C s₁.name) (StageMeets P₁ X₁ P₁ X₂ s₁ 𝓛)) (known₂ : Triple 𝓤 (C s₂.name) (StageMeets P₂ X₂ P₂ X₃ s₂ 𝓛))
-        (known₃ : Triple 𝓤 (C s₃.name) (StageMeets P₃ X₃ P₃ X₄ s₃ 𝓛)) (known₄ : Triple 𝓤 (C s₄.name) (StageMeets L X₄ L O s₄ 𝓛)) where
-      -- walk: written by tools/walks/write
-      abbrev E : (l_result l_w l_i l_out l_a l_r₀ l_r₁ l_r₂ l_r₃ l_r₄ l_last l_input l_none l_part₀ l_part₁ l_part₂ l_part₃ l_part₄ : ℕ) → Env 𝓤 H
-      E l_result l_w l_i l_out l_a l_r₀ l_r₁ l_r₂ l_r₃ l_r₄ l_last l_input l_none l_part₀ l_part₁ l_part₂ l_part₃ l_part₄ = (ty_int w8, l_result) ∷ (ty_ref (named 0) mut (pointee R.written), l_w) ∷ (ty_ref (named 1) imm (pointee I.shape.written), l_i) ∷ (ty_ref (named 2) mut (pointee O.shape.written), l_out) ∷ ((two_shape of_u8 X₀ ask.gives).τ, l_a) ∷ ((two_shape P₀ X₁ s₀.gives).τ, l_r₀) ∷ ((two_shape P₁ X₂ s₁.gives).τ, l_r₁) ∷ ((two_shape P₂ X₃ s₂.gives).τ, l_r₂) ∷ ((two_shape P₃ X₄ s₃.gives).τ, l_r₃) ∷ ((two_shape L O s₄.gives).τ, l_r₄) ∷ (L.shape.τ, l_last) ∷ (I.shape.τ, l_input) ∷ (ty_bool, l_none) ∷ (P₀.shape.τ, l_part₀) ∷ (P₁.shape.τ, l_part₁) ∷ (P₂.shape.τ, l_part₂) ∷ (P₃.shape.τ, l_part₃) ∷ (L.shape.τ, l_part₄) ∷ []
-
-      walk_out : ent 𝓤 (on_entry 𝓛 sig_out (κ, (κ₁, (κ₂, tt))) (q, (q₁, (q₂, tt))) x_out at_out) (WpFn 𝓤 H C Λ function_out (vptr b o ∷ vptr b₁ o₁ ∷ vptr b₂ o₂ ∷ []) Post_out)
-      walk_out =
-          qed 𝓛 ((‵ (flft κ q) ⊛ ‵ (flft κ₁ q₁) ⊛ ‵ (flft κ₂ q₂) ⊛ ‵ ftrue) ∷ ‵ (owns (MutRef (named 0) κ (row_of R) ∷ ShrRef (named 1) κ₁ (row I) ∷ MutRef (named 2) κ₂ (row O) ∷ []) x_out at_out) ∷ []) ∵
-          enter ! C Λ function_out (vptr b o ∷ vptr b₁ o₁ ∷ vptr b₂ o₂ ∷ []) _ $
-          alloc1 ! (λ l_result. alloc1 ! (λ l_w. alloc1 ! (λ l_i. alloc1 ! (λ l_out. alloc1 ! (λ l_a. alloc1 ! (λ l_r₀. alloc1 ! (λ l_r₁. alloc1 ! (λ l_r₂. alloc1 ! (λ l_r₃. alloc1 ! (λ l_r₄. alloc1 ! (λ l_last. alloc1 ! (λ l_input. alloc1 ! (λ l_none. alloc1 ! (λ l_part₀. alloc1 ! (λ l_part₁. alloc1 ! (λ l_part₂. alloc1 ! (λ l_part₃. alloc1 ! (λ l_part₄. alloc0 ! $
-          params1 ! $ pass1 ! (init ! 32 refl (tt, tt)) $ pass1 ! (init ! 30 refl (tt, tt)) $ pass1 ! (init ! 28 refl (tt, tt)) $ pass0 ! $
-          move ! (37 ∷ []) $ fsplit ! $ fsplit3 ! $ drop ! $
-          move ! (2 ∷ []) $ fsplit ! $ fsplit3 ! $ drop ! $
-          move ! (2 ∷ []) $ fsplit ! $ fsplit3 ! $ drop ! $ move ! (2 ∷ []) $ drop ! $
-          move ! (42 ∷ []) $ split ! $ move ! (1 ∷ []) $ split ! $ move ! (1 ∷ []) $ split ! $ move ! (1 ∷ []) $ drop ! $
-          -- the borrow of the record is opened
-          move ! (7 ∷ 8 ∷ 2 ∷ []) $ opens ! tt (row_of R) {h = h} b o (λ vs.
-          spelt ! (row_of R) (Is (row_of R)) (shows 𝓛 (row_of R)) (λ z. parts_val z ∷ []) FL.tells full_share h vs b o $
-          move ! (1 ∷ []) $ peeks ! (row_of R) (Is (row_of R)) (shows 𝓛 (row_of R)) h (parts_val h ∷ []) (λ was. drop ! $
-          move ! (0 ∷ []) $ use1 𝓛 (‵ (fat full_share R.τ b o (parts_val h))) (𝓛.laws.raw_at full_share R.τ b o (parts_val h)) $
-          -- the last part and the input are copied
-          assigns ! (of_opd ! (load ! (from ! (hop ! (look ! 42 refl) (fld ! refl (stop !)))) (look_in ! 0 (sub ! 4 refl (whole !))))) (from ! (stop !))
-          (init ! 24 refl ((L.lawful 𝓛).typed (F.last h) _ (FL.is_last h _ was)).0) $
-          move ! (9 ∷ 5 ∷ []) $ looks ! tt (row I) (Is (row I)) (shows 𝓛 (row I)) (λ z. I.val z ∷ []) I.tells (I.copies 𝓛) i b₁ o₁ (λ q' vs₁.
-          spelt ! (row I) (Is (row I)) (shows 𝓛 (row I)) (λ z. I.val z ∷ []) I.tells q' i vs₁ b₁ o₁ $
-          move ! (1 ∷ []) $ peeks ! (row I) (Is (row I)) (shows 𝓛 (row I)) i (I.val i ∷ []) (λ is_i. move ! (1 ∷ 0 ∷ []) $
-          assigns ! (of_opd ! (load ! (from ! (hop ! (look ! 42 refl) (stop !))) (look_raw ! 0 refl))) (from ! (stop !))
-          (init ! 24 refl ((I.lawful 𝓛).typed i _ is_i).0) $
-          shuts ! tt (row I) q' i (I.val i ∷ []) b₁ o₁ $
-          -- the number and its test
-          calls_by_value (L ∷ I ∷ []) (two_shape of_u8 X₀ ask.gives) (λ d. ask.does d.0 d.1.0) 𝓛 (F.last h, (i, tt)) (FL.is_last h _ was, (is_i, tt)) fm known
-          (and_then ! (load ! (from ! (stop !)) (look ! 25 refl)) (and_then ! (load ! (from ! (stop !)) (look ! 23 refl)) (no_more !))) (λ a v asked is_a.
-          land ! (from ! (stop !)) (init ! 37 refl ((ask.laws.lawful 𝓛).typed a _ is_a).0) $
-          rewrite ! 37 (λ (u : Val). ‵ (fat full_share (two_shape of_u8 X₀ ask.gives).τ l_a 0 u)) (lone_is v (two_val of_u8 X₀ ask.gives a) (ask.laws.tells a (v ∷ []) is_a)) refl $ drop ! $
-          assigns ! (bin ! (load ! (from ! (fld ! refl (stop !))) (look_in ! 36 (sub ! 0 refl (whole !)))) (lit ! tt) tt) (from ! (stop !)) (init ! 20 refl (tt, tt)) $
-          first ! $ branches ! (load ! (from ! (stop !)) (look ! 20 refl))
-          -- 0: the parts in their order
-          (λ none.
-          move ! (2 ∷ 42 ∷ 18 ∷ 36 ∷ 34 ∷ []) $ run_part 𝓛 fm of_u8 P₀ X₀ X₁ ask.gives s₀ known₀ 0 13 4 5 refl refl refl refl refl
-          (F.part₀ h) refl (FL.is_part₀ h _ was) a (ask.laws.is_second a _ is_a) (λ r₀ e₀ f₀ g₀.
-          move ! (0 ∷ 1 ∷ 20 ∷ 4 ∷ 35 ∷ []) $ run_part 𝓛 fm P₀ P₁ X₁ X₂ s₀.gives s₁ known₁ 1 14 5 6 refl refl refl refl refl
-          (F.part₁ h) refl (FL.is_part₁ h _ was) r₀ g₀ (λ r₁ e₁ f₁ g₁.
-          move ! (0 ∷ 1 ∷ 20 ∷ 4 ∷ 34 ∷ []) $ run_part 𝓛 fm P₁ P₂ X₂ X₃ s₁.gives s₂ known₂ 2 15 6 7 refl refl refl refl refl
-          (F.part₂ h) refl (FL.is_part₂ h _ was) r₁ g₁ (λ r₂ e₂ f₂ g₂.
-          move ! (0 ∷ 1 ∷ 20 ∷ 4 ∷ 33 ∷ []) $ run_part 𝓛 fm P₂ P₃ X₃ X₄ s₂.gives s₃ known₃ 3 16 7 8 refl refl refl refl refl
-          (F.part₃ h) refl (FL.is_part₃ h _ was) r₂ g₂ (λ r₃ e₃ f₃ g₃.
-          move ! (0 ∷ 1 ∷ 20 ∷ 4 ∷ 32 ∷ []) $ run_part 𝓛 fm P₃ L X₄ O s₃.gives s₄ known₄ 4 17 8 9 refl refl refl refl refl
-          (F.last h) refl (FL.is_last h _ was) r₃ g₃ (λ r₄ e₄ f₄ g₄.
-          -- the output is stored
-          move ! (19 ∷ 20 ∷ 18 ∷ []) $ opens ! tt (row O) {h = w} b₂ o₂ (λ vs₂.
-          spelt ! (row O) (Is (row O)) (shows 𝓛 (row O)) (λ z. O.val z ∷ []) O.tells full_share w vs₂ b₂ o₂ $ move ! (1 ∷ []) $ drop ! $
-          assigns_last ! (of_opd ! (load ! (from ! (fld ! refl (stop !))) (look_in ! 8 (sub ! 1 refl (whole !))))) (from ! (hop ! (look ! 40 refl) (stop !)))
-          (store_raw ! 0 refl ((O.lawful 𝓛).typed (s₄.gives.second r₄) _ g₄).0) $
-          -- the number is returned, and both borrows are closed
-          exec ! C Λ (E l_result l_w l_i l_out l_a l_r₀ l_r₁ l_r₂ l_r₃ l_r₄ l_last l_input l_none l_part₀ l_part₁ l_part₂ l_part₃ l_part₄) ends_out (at_ret (E l_result l_w l_i l_out l_a l_r₀ l_r₁ l_r₂ l_r₃ l_r₄ l_last l_input l_none l_part₀ l_part₁ l_part₂ l_part₃ l_part₄) Post_out) $
-          assigns ! (of_opd ! (load ! (from ! (fld ! refl (stop !))) (look_in ! 16 (sub ! 0 refl (whole !))))) (from ! (stop !))
-          (init ! 45 refl ((of_u8.lawful 𝓛).typed (ask.gives.first a) _ (ask.laws.is_first a _ is_a)).0) $
-          owned ! (row O) (Is (row O)) (O.makes 𝓛) (s₄.gives.second r₄) (O.val (s₄.gives.second r₄) ∷ []) g₄ $
-          move ! (1 ∷ 0 ∷ 2 ∷ 3 ∷ 4 ∷ []) $ closes ! tt (row O) (s₄.gives.second r₄) (O.val (s₄.gives.second r₄) ∷ []) b₂ o₂ $
-          owned ! (row_of R) (Is (row_of R)) (FL.makes 𝓛) (made r₀ r₁ r₂ r₃ r₄) (made_val r₀ r₁ r₂ r₃ r₄ ∷ [])
-          (FL.is_made (s₀.gives.first r₀) (s₁.gives.first r₁) (s₂.gives.first r₂) (s₃.gives.first r₃) (s₄.gives.first r₄) f₀ f₁ f₂ f₃ f₄) $
-          move ! (4 ∷ []) $ use1 𝓛 (‵ (fat full_share (raw_ty R.τ) b o (made_val r₀ r₁ r₂ r₃ r₄))) (𝓛.laws.at_raw full_share R.τ b o (made_val r₀ r₁ r₂ r₃ r₄)) $
-          move ! (0 ∷ 1 ∷ 19 ∷ 20 ∷ 21 ∷ []) $ closes ! tt (row_of R) (made r₀ r₁ r₂ r₃ r₄) (made_val r₀ r₁ r₂ r₃ r₄ ∷ []) b o $
-          owned ! (row of_u8) (Is (row of_u8)) (of_u8.makes 𝓛) (ask.gives.first a) (of_u8.val (ask.gives.first a) ∷ []) (ask.laws.is_first a _ is_a) $
-          returns ! (look ! 44 refl) $ forget ! 44 refl $ forget ! 7 refl $ forget ! 41 refl $ forget ! 39 refl $ forget ! 18 refl $ forget ! 16 refl $ forget ! 14 refl $ forget ! 12 refl $ forget ! 9 refl $ forget ! 10 refl $ forget ! 31 refl $ forget ! 29 refl $ forget ! 27 refl $ forget ! 17 refl $ forget ! 15 refl $ forget ! 13 refl $ forget ! 11 refl $ forget ! 8 refl $
-          move ! (44 ∷ 45 ∷ []) $ free1 ! $ move ! (7 ∷ 43 ∷ []) $ free1 ! $ move ! (40 ∷ 41 ∷ []) $ free1 ! $ move ! (38 ∷ 39 ∷ []) $ free1 ! $ move ! (17 ∷ 37 ∷ []) $ free1 ! $ move ! (15 ∷ 35 ∷ []) $ free1 ! $ move ! (13 ∷ 33 ∷ []) $ free1 ! $ move ! (11 ∷ 31 ∷ []) $ free1 ! $ move ! (8 ∷ 29 ∷ []) $ free1 ! $ move ! (8 ∷ 27 ∷ []) $ free1 ! $ move ! (24 ∷ 25 ∷ []) $ free1 ! $ move ! (22 ∷ 23 ∷ []) $ free1 ! $ move ! (20 ∷ 21 ∷ []) $ free1 ! $ move ! (11 ∷ 19 ∷ []) $ free1 ! $ move ! (10 ∷ 17 ∷ []) $ free1 ! $ move ! (9 ∷ 15 ∷ []) $ free1 ! $ move ! (8 ∷ 13 ∷ []) $ free1 ! $ move ! (7 ∷ 11 ∷ []) $ free1 ! $ free0 ! $
-          keep ! (0 ∷ 1 ∷ 2 ∷ 4 ∷ 5 ∷ 3 ∷ 7 ∷ 6 ∷ 8 ∷ 9 ∷ []) $ by ! (exits_out (made r₀ r₁ r₂ r₃ r₄) (s₄.gives.second r₄) (ask.gives.first a)
-          (law_taken h i w a r₀ r₁ r₂ r₃ r₄ asked none e₀ e₁ e₂ e₃ e₄)))))))))
-          -- not 0: nothing is stored; the number is returned, and the borrow of the record is closed
-          (λ some_no. skips ! $
-          exec ! C Λ (E l_result l_w l_i l_out l_a l_r₀ l_r₁ l_r₂ l_r₃ l_r₄ l_last l_input l_none l_part₀ l_part₁ l_part₂ l_part₃ l_part₄) ends_out (at_ret (E l_result l_w l_i l_out l_a l_r₀ l_r₁ l_r₂ l_r₃ l_r₄ l_last l_input l_none l_part₀ l_part₁ l_part₂ l_part₃ l_part₄) Post_out) $
-          assigns ! (of_opd ! (load ! (from ! (fld ! refl (stop !))) (look_in ! 36 (sub ! 0 refl (whole !))))) (from ! (stop !))
-          (init ! 44 refl ((of_u8.lawful 𝓛).typed (ask.gives.first a) _ (ask.laws.is_first a _ is_a)).0) $
-          owned ! (row_of R) (Is (row_of R)) (FL.makes 𝓛) h (parts_val h ∷ []) was $
-          move ! (3 ∷ []) $ use1 𝓛 (‵ (fat full_share (raw_ty R.τ) b o (parts_val h))) (𝓛.laws.at_raw full_share R.τ b o (parts_val h)) $
-          move ! (0 ∷ 1 ∷ 4 ∷ 5 ∷ 6 ∷ []) $ closes ! tt (row_of R) h (parts_val h ∷ []) b o $
-          owned ! (row of_u8) (Is (row of_u8)) (of_u8.makes 𝓛) (ask.gives.first a) (of_u8.val (ask.gives.first a) ∷ []) (ask.laws.is_first a _ is_a) $
-          returns ! (look ! 44 refl) $ forget ! 44 refl $ forget ! 42 refl $ forget ! 40 refl $ forget ! 38 refl $ forget ! 36 refl $ forget ! 24 refl $ forget ! 22 refl $ forget ! 20 refl $
-          move ! (44 ∷ 45 ∷ []) $ free1 ! $ move ! (42 ∷ 43 ∷ []) $ free1 ! $ move ! (40 ∷ 41 ∷ []) $ free1 ! $ move ! (38 ∷ 39 ∷ []) $ free1 ! $ move ! (36 ∷ 37 ∷ []) $ free1 ! $ move ! (34 ∷ 35 ∷ []) $ free1 ! $ move ! (32 ∷ 33 ∷ []) $ free1 ! $ move ! (30 ∷ 31 ∷ []) $ free1 ! $ move ! (28 ∷ 29 ∷ []) $ free1 ! $ move ! (26 ∷ 27 ∷ []) $ free1 ! $ move ! (24 ∷ 25 ∷ []) $ free1 ! $ move ! (22 ∷ 23 ∷ []) $ free1 ! $ move ! (20 ∷ 21 ∷ []) $ free1 ! $ move ! (18 ∷ 19 ∷ []) $ free1 ! $ move ! (16 ∷ 17 ∷ []) $ free1 ! $ move ! (14 ∷ 15 ∷ []) $ free1 ! $ move ! (12 ∷ 13 ∷ []) $ free1 ! $ move ! (10 ∷ 11 ∷ []) $ free1 ! $ free0 ! $
-          keep ! (0 ∷ 1 ∷ 2 ∷ 7 ∷ 8 ∷ 3 ∷ 4 ∷ 6 ∷ 5 ∷ 9 ∷ []) $ by ! (exits_out h w (ask.gives.first a) (law_left h i w a asked some_no))))))))))))))))))))))))))
-      -- walk: end
 
   module _ {M : Type 1} {𝓤 : Ura M} (𝓛 : Logic 𝓤) where
     open 𝓛 use {H}
 
-    walks_out : (C : Calls 𝓤 H) (Λ : Loops 𝓤 H) → FmC 𝓤 H 𝓛.laws C
-        → Triple 𝓤 (C ask.name) (StageMeets L I of_u8 X₀ ask 𝓛) → Triple 𝓤 (C s₀.name) (StageMeets P₀ X₀ P₀ X₁ s₀ 𝓛)
-        → Triple 𝓤 (C s₁.name) (StageMeets P₁ X₁ P₁ X₂ s₁ 𝓛) → Triple 𝓤 (C s₂.name) (StageMeets P₂ X₂ P₂ X₃ s₂ 𝓛)
-        → Triple 𝓤 (C s₃.name) (StageMeets P₃ X₃ P₃ X₄ s₃ 𝓛) → Triple 𝓤 (C s₄.name) (StageMeets L X₄ L O s₄ 𝓛)
-        → Walks 𝓛 ended_out stayed_out (WpFn 𝓤 H C Λ function_out) (clauses_out 𝓤)
-    walks_out C Λ fm m m₀ m₁ m₂ m₃ m₄ = walked 𝓛 ended_out stayed_out (clauses_out 𝓤) (WpFn 𝓤 H C Λ function_out)
-        (λ κs. (shr_vals, (shr_vals, (shr_vals, tt))))
-        (λ κs. (mut_Tells (named 0) κs.0 (row_of R), (shr_Tells (named 1) κs.1.0 (row I), (mut_Tells (named 2) κs.1.1.0 (row O), tt))))
-        (λ κs qs bounds a _ are. via 𝓤 _ (fst∗ 𝓤 _ (emp 𝓤)) (walk_out 𝓛 κs.0 κs.1.0 κs.1.1.0 qs.0 qs.1.0 qs.1.1.0
-        a.0.ref_ptr.0 a.0.ref_ptr.1 a.0.ghost_name a.0.now a.1.0.ref_ptr.0 a.1.0.ref_ptr.1 a.1.0.ghost_name a.1.0.now
-        a.1.1.0.ref_ptr.0 a.1.1.0.ref_ptr.1 a.1.1.0.ghost_name a.1.1.0.now C Λ fm m m₀ m₁ m₂ m₃ m₄))
-
     goes_out : AllGo 𝓛 3 sig_out.params ended_out.kept stayed_out
     goes_out = (Goes-ref 𝓛 3 0 tt (plain (λ _. row_of R)), (Goes-none_ref 𝓛 3 (1 ∷ []) tt (plain (λ _. row I)) yes, (Goes-ref 𝓛 3 2 tt (plain (λ _. row O)), tt)))
 
-    pub lent_out_meets : (𝓣 : Tables 𝓤 H)
-        → Triple 𝓤 (𝓣.C ask.name) (StageMeets L I of_u8 X₀ ask 𝓛) → Triple 𝓤 (𝓣.C s₀.name) (StageMeets P₀ X₀ P₀ X₁ s₀ 𝓛)
-        → Triple 𝓤 (𝓣.C s₁.name) (StageMeets P₁ X₁ P₁ X₂ s₁ 𝓛) → Triple 𝓤 (𝓣.C s₂.name) (StageMeets P₂ X₂ P₂ X₃ s₂ 𝓛)
-        → Triple 𝓤 (𝓣.C s₃.name) (StageMeets P₃ X₃ P₃ X₄ s₃ 𝓛) → Triple 𝓤 (𝓣.C s₄.name) (StageMeets L X₄ L O s₄ 𝓛)
+    -- the contract from a walk
+    out_meets : (𝓣 : Tables 𝓤 H)
+        → ((κ κ₁ κ₂ : Lft) (q q₁ q₂ : Share) (b o : ℕ) (γ : GName) (h : F.X) (b₁ o₁ : ℕ) (i : Data I) (b₂ o₂ : ℕ) (γ₂ : GName) (w : Data O) → OutWalk 𝓛 κ κ₁ κ₂ q q₁ q₂ b o γ h b₁ o₁ i b₂ o₂ γ₂ w 𝓣.C 𝓣.Λ)
         → Meets 𝓛 sig_out (WpFn 𝓤 H 𝓣.C 𝓣.Λ function_out) (closing 𝓛 ended_out (clauses_out 𝓤))
-    lent_out_meets 𝓣 m m₀ m₁ m₂ m₃ m₄ = walk_Meets 𝓛 ended_out stayed_out goes_out (clauses_out 𝓤)
-        (WpFn 𝓤 H 𝓣.C 𝓣.Λ function_out) (WpFn-mono 𝓤 H 𝓛.laws 𝓣 function_out) (walks_out 𝓣.C 𝓣.Λ (fm_of 𝓤 H 𝓛.laws 𝓣) m m₀ m₁ m₂ m₃ m₄)
+    out_meets 𝓣 walk = walk_Meets 𝓛 ended_out stayed_out goes_out (clauses_out 𝓤)
+        (WpFn 𝓤 H 𝓣.C 𝓣.Λ function_out) (WpFn-mono 𝓤 H 𝓛.laws 𝓣 function_out)
+        (walked 𝓛 ended_out stayed_out (clauses_out 𝓤) (WpFn 𝓤 H 𝓣.C 𝓣.Λ function_out)
+        (λ κs. (mut_vals, (shr_vals, (mut_vals, tt))))
+        (λ κs. (mut_Tells (named 0) κs.0 (row_of R), (shr_Tells (named 1) κs.1.0 (row I), (mut_Tells (named 2) κs.1.1.0 (row O), tt))))
+        (λ κs qs bounds a _ are. via 𝓤 _ (fst∗ 𝓤 _ (emp 𝓤)) (walk κs.0 κs.1.0 κs.1.1.0 qs.0 qs.1.0 qs.1.1.0
+        a.0.ref_ptr.0 a.0.ref_ptr.1 a.0.ghost_name a.0.now a.1.0.ref_ptr.0 a.1.0.ref_ptr.1 a.1.0.now
+        a.1.1.0.ref_ptr.0 a.1.1.0.ref_ptr.1 a.1.1.0.ghost_name a.1.1.0.now)))
+
+  module _ {M : Type 1} {𝓤 : Ura M} (𝓛 : Logic 𝓤) (𝓣 : Tables 𝓤 𝓛.H)
+      (known : Triple 𝓤 (𝓣.C ask.name) (StageMeets L I of_u8 X₀ ask 𝓛)) (known₀ : Triple 𝓤 (𝓣.C s₀.name) (StageMeets P₀ X₀ P₀ X₁ s₀ 𝓛))
+      (known₁ : Triple 𝓤 (𝓣.C s₁.name) (StageMeets P₁ X₁ P₁ X₂ s₁ 𝓛)) (known₂ : Triple 𝓤 (𝓣.C s₂.name) (StageMeets P₂ X₂ P₂ X₃ s₂ 𝓛))
+      (known₃ : Triple 𝓤 (𝓣.C s₃.name) (StageMeets P₃ X₃ P₃ X₄ s₃ 𝓛)) (known₄ : Triple 𝓤 (𝓣.C s₄.name) (StageMeets L X₄ L O s₄ 𝓛)) where
+    open 𝓛 use {H}
+    open 𝓣 use {C, Λ}
+
+    fm : FmC 𝓤 H 𝓛.laws C
+    fm = fm_of 𝓤 H 𝓛.laws 𝓣
+
+    -- walk: written by tools/walks/write
+    abbrev E : (l_result l_w l_i l_out l_a l_r₀ l_r₁ l_r₂ l_r₃ l_r₄ l_last l_input l_none l_part₀ l_handed₀ l_stored₀ l_part₁ l_handed₁ l_stored₁ l_part₂ l_handed₂ l_stored₂ l_part₃ l_handed₃ l_stored₃ l_part₄ l_handed₄ l_stored₄ l_output : ℕ) → Env 𝓤 H
+    E l_result l_w l_i l_out l_a l_r₀ l_r₁ l_r₂ l_r₃ l_r₄ l_last l_input l_none l_part₀ l_handed₀ l_stored₀ l_part₁ l_handed₁ l_stored₁ l_part₂ l_handed₂ l_stored₂ l_part₃ l_handed₃ l_stored₃ l_part₄ l_handed₄ l_stored₄ l_output = (ty_int w8, l_result) ∷ (ty_ref (named 0) mut (pointee R.written), l_w) ∷ (ty_ref (named 1) imm (pointee I.shape.written), l_i) ∷ (ty_ref (named 2) mut (pointee O.shape.written), l_out) ∷ ((two_shape of_u8 X₀ ask.gives).τ, l_a) ∷ ((two_shape P₀ X₁ s₀.gives).τ, l_r₀) ∷ ((two_shape P₁ X₂ s₁.gives).τ, l_r₁) ∷ ((two_shape P₂ X₃ s₂.gives).τ, l_r₂) ∷ ((two_shape P₃ X₄ s₃.gives).τ, l_r₃) ∷ ((two_shape L O s₄.gives).τ, l_r₄) ∷ (L.shape.τ, l_last) ∷ (I.shape.τ, l_input) ∷ (ty_bool, l_none) ∷ (P₀.shape.τ, l_part₀) ∷ (X₀.shape.τ, l_handed₀) ∷ (P₀.shape.τ, l_stored₀) ∷ (P₁.shape.τ, l_part₁) ∷ (X₁.shape.τ, l_handed₁) ∷ (P₁.shape.τ, l_stored₁) ∷ (P₂.shape.τ, l_part₂) ∷ (X₂.shape.τ, l_handed₂) ∷ (P₂.shape.τ, l_stored₂) ∷ (P₃.shape.τ, l_part₃) ∷ (X₃.shape.τ, l_handed₃) ∷ (P₃.shape.τ, l_stored₃) ∷ (L.shape.τ, l_part₄) ∷ (X₄.shape.τ, l_handed₄) ∷ (L.shape.τ, l_stored₄) ∷ (O.shape.τ, l_output) ∷ []
+
+    pub lent_out_meets : Meets 𝓛 sig_out (WpFn 𝓤 H C Λ function_out) (closing 𝓛 ended_out (clauses_out 𝓤))
+    lent_out_meets = out_meets 𝓛 𝓣 (λ κ κ₁ κ₂ q q₁ q₂ b o γ h b₁ o₁ i b₂ o₂ γ₂ w.
+        let Post = Post_out 𝓛 κ κ₁ κ₂ q q₁ q₂ b o γ h b₁ o₁ i b₂ o₂ γ₂ w in
+        let exits = exits_out 𝓛 κ κ₁ κ₂ q q₁ q₂ b o γ h b₁ o₁ i b₂ o₂ γ₂ w in
+        qed 𝓛 (out_entry 𝓛 κ κ₁ κ₂ q q₁ q₂ b o γ h b₁ o₁ i b₂ o₂ γ₂ w) ∵
+        enter ! C Λ function_out (vptr b o ∷ vptr b₁ o₁ ∷ vptr b₂ o₂ ∷ []) _ $
+        alloc1 ! (λ l_result. alloc1 ! (λ l_w. alloc1 ! (λ l_i. alloc1 ! (λ l_out. alloc1 ! (λ l_a. alloc1 ! (λ l_r₀. alloc1 ! (λ l_r₁. alloc1 ! (λ l_r₂. alloc1 ! (λ l_r₃. alloc1 ! (λ l_r₄. alloc1 ! (λ l_last. alloc1 ! (λ l_input. alloc1 ! (λ l_none. alloc1 ! (λ l_part₀. alloc1 ! (λ l_handed₀. alloc1 ! (λ l_stored₀. alloc1 ! (λ l_part₁. alloc1 ! (λ l_handed₁. alloc1 ! (λ l_stored₁. alloc1 ! (λ l_part₂. alloc1 ! (λ l_handed₂. alloc1 ! (λ l_stored₂. alloc1 ! (λ l_part₃. alloc1 ! (λ l_handed₃. alloc1 ! (λ l_stored₃. alloc1 ! (λ l_part₄. alloc1 ! (λ l_handed₄. alloc1 ! (λ l_stored₄. alloc1 ! (λ l_output. alloc0 ! $
+        params1 ! $ pass1 ! (init ! 54 refl (tt, tt)) $ pass1 ! (init ! 52 refl (tt, tt)) $ pass1 ! (init ! 50 refl (tt, tt)) $ pass0 ! $
+        move ! (59 ∷ []) $ fsplit ! $ fsplit3 ! $ drop ! $
+        move ! (2 ∷ []) $ fsplit ! $ fsplit ! $ drop ! $
+        move ! (1 ∷ []) $ fsplit ! $ fsplit3 ! $ drop ! $ move ! (2 ∷ []) $ drop ! $
+        move ! (63 ∷ []) $ split ! $ move ! (1 ∷ []) $ split ! $ move ! (1 ∷ []) $ split ! $ move ! (1 ∷ []) $ drop ! $
+        -- the borrow of the record is opened
+        move ! (6 ∷ 7 ∷ 2 ∷ []) $ opens ! tt (row_of R) {h = h} b o (λ vs.
+        spelt ! (row_of R) (Is (row_of R)) (shows 𝓛 (row_of R)) (λ z. parts_val z ∷ []) FL.tells full_share h vs b o $
+        move ! (1 ∷ []) $ peeks ! (row_of R) (Is (row_of R)) (shows 𝓛 (row_of R)) h (parts_val h ∷ []) (λ was. drop ! $
+        move ! (0 ∷ []) $ use1 𝓛 (‵ (fat full_share R.τ b o (parts_val h))) (𝓛.laws.raw_at full_share R.τ b o (parts_val h)) $
+        -- the last part and the input are copied
+        assigns ! (of_opd ! (load ! (from ! (hop ! (look ! 63 refl) (fld ! refl (stop !)))) (look_in ! 0 (sub ! 4 refl (whole !))))) (from ! (stop !))
+        (init ! 45 refl ((L.lawful 𝓛).typed (F.last h) _ (FL.is_last h _ was)).0) $
+        move ! (8 ∷ 5 ∷ []) $ looks ! tt (row I) (I.opens 𝓛) i b₁ o₁ (λ q' vs₁.
+        spelt ! (row I) (Is (row I)) (shows 𝓛 (row I)) (λ z. I.val z ∷ []) I.tells q' i vs₁ b₁ o₁ $
+        move ! (1 ∷ []) $ peeks ! (row I) (Is (row I)) (shows 𝓛 (row I)) i (I.val i ∷ []) (λ is_i. move ! (1 ∷ 0 ∷ []) $
+        assigns ! (of_opd ! (load ! (from ! (hop ! (look ! 63 refl) (stop !))) (look_raw ! 0 refl))) (from ! (stop !))
+        (init ! 45 refl ((I.lawful 𝓛).typed i _ is_i).0) $
+        shuts ! tt (row I) q' i (I.val i ∷ []) b₁ o₁ $
+        -- the number and its test
+        calls_by_value (L ∷ I ∷ []) (two_shape of_u8 X₀ ask.gives) (λ d. ask.does d.0 d.1.0) 𝓛 (F.last h, (i, tt)) (FL.is_last h _ was, (is_i, tt)) fm known
+        (and_then ! (load ! (from ! (stop !)) (look ! 46 refl)) (and_then ! (load ! (from ! (stop !)) (look ! 44 refl)) (no_more !))) (λ a v asked is_a.
+        land ! (from ! (stop !)) (init ! 58 refl ((ask.laws.lawful 𝓛).typed a _ is_a).0) $
+        rewrite ! 58 (λ (u : Val). ‵ (fat full_share (two_shape of_u8 X₀ ask.gives).τ l_a 0 u)) (lone_is v (two_val of_u8 X₀ ask.gives a) (ask.laws.tells a (v ∷ []) is_a)) refl $ drop ! $
+        assigns ! (bin ! (load ! (from ! (fld ! refl (stop !))) (look_in ! 57 (sub ! 0 refl (whole !)))) (lit ! tt) tt) (from ! (stop !)) (init ! 41 refl (tt, tt)) $
+        first ! $ branches ! (load ! (from ! (stop !)) (look ! 41 refl))
+        -- 0: the parts in their order
+        (λ none.
+        move ! (2 ∷ 63 ∷ 39 ∷ 37 ∷ 35 ∷ 57 ∷ 55 ∷ []) $ run_part 𝓛 fm of_u8 P₀ X₀ X₁ ask.gives s₀ known₀ 0 13 14 15 4 5 refl refl refl refl refl refl refl
+        (F.part₀ h) refl (FL.is_part₀ h _ was) a (ask.laws.is_second a _ is_a) (λ r₀ e₀ f₀ g₀.
+        move ! (0 ∷ 1 ∷ 39 ∷ 37 ∷ 35 ∷ 6 ∷ 56 ∷ []) $ run_part 𝓛 fm P₀ P₁ X₁ X₂ s₀.gives s₁ known₁ 1 16 17 18 5 6 refl refl refl refl refl refl refl
+        (F.part₁ h) refl (FL.is_part₁ h _ was) r₀ g₀ (λ r₁ e₁ f₁ g₁.
+        move ! (0 ∷ 1 ∷ 37 ∷ 35 ∷ 33 ∷ 6 ∷ 55 ∷ []) $ run_part 𝓛 fm P₁ P₂ X₂ X₃ s₁.gives s₂ known₂ 2 19 20 21 6 7 refl refl refl refl refl refl refl
+        (F.part₂ h) refl (FL.is_part₂ h _ was) r₁ g₁ (λ r₂ e₂ f₂ g₂.
+        move ! (0 ∷ 1 ∷ 35 ∷ 33 ∷ 31 ∷ 6 ∷ 54 ∷ []) $ run_part 𝓛 fm P₂ P₃ X₃ X₄ s₂.gives s₃ known₃ 3 22 23 24 7 8 refl refl refl refl refl refl refl
+        (F.part₃ h) refl (FL.is_part₃ h _ was) r₂ g₂ (λ r₃ e₃ f₃ g₃.
+        move ! (0 ∷ 1 ∷ 33 ∷ 31 ∷ 29 ∷ 6 ∷ 53 ∷ []) $ run_part 𝓛 fm P₃ L X₄ O s₃.gives s₄ known₄ 4 25 26 27 8 9 refl refl refl refl refl refl refl
+        (F.last h) refl (FL.is_last h _ was) r₃ g₃ (λ r₄ e₄ f₄ g₄.
+        -- the output is stored
+        move ! (29 ∷ 30 ∷ 28 ∷ []) $ opens ! tt (row O) {h = w} b₂ o₂ (λ vs₂.
+        spelt ! (row O) (Is (row O)) (shows 𝓛 (row O)) (λ z. O.val z ∷ []) O.tells full_share w vs₂ b₂ o₂ $ move ! (1 ∷ []) $ drop ! $
+        assigns ! (of_opd ! (load ! (from ! (fld ! refl (stop !))) (look_in ! 10 (sub ! 1 refl (whole !))))) (from ! (stop !))
+        (init ! 32 refl ((O.lawful 𝓛).typed (s₄.gives.second r₄) _ g₄).0) $
+        assigns_last ! (of_opd ! (load ! (from ! (stop !)) (look ! 32 refl))) (from ! (hop ! (look ! 61 refl) (stop !)))
+        (store_raw ! 0 refl ((O.lawful 𝓛).typed (s₄.gives.second r₄) _ g₄).0) $
+        -- the number is returned, and both borrows are closed
+        exec ! C Λ (E l_result l_w l_i l_out l_a l_r₀ l_r₁ l_r₂ l_r₃ l_r₄ l_last l_input l_none l_part₀ l_handed₀ l_stored₀ l_part₁ l_handed₁ l_stored₁ l_part₂ l_handed₂ l_stored₂ l_part₃ l_handed₃ l_stored₃ l_part₄ l_handed₄ l_stored₄ l_output) ends_out (at_ret (E l_result l_w l_i l_out l_a l_r₀ l_r₁ l_r₂ l_r₃ l_r₄ l_last l_input l_none l_part₀ l_handed₀ l_stored₀ l_part₁ l_handed₁ l_stored₁ l_part₂ l_handed₂ l_stored₂ l_part₃ l_handed₃ l_stored₃ l_part₄ l_handed₄ l_stored₄ l_output) Post) $
+        assigns ! (of_opd ! (load ! (from ! (fld ! refl (stop !))) (look_in ! 26 (sub ! 0 refl (whole !))))) (from ! (stop !))
+        (init ! 66 refl ((of_u8.lawful 𝓛).typed (ask.gives.first a) _ (ask.laws.is_first a _ is_a)).0) $
+        owned ! (row O) (Is (row O)) (O.makes 𝓛) (s₄.gives.second r₄) (O.val (s₄.gives.second r₄) ∷ []) g₄ $
+        move ! (1 ∷ 0 ∷ 2 ∷ 3 ∷ 4 ∷ []) $ closes ! tt (row O) (s₄.gives.second r₄) (O.val (s₄.gives.second r₄) ∷ []) b₂ o₂ $
+        owned ! (row_of R) (Is (row_of R)) (FL.makes 𝓛) (made r₀ r₁ r₂ r₃ r₄) (made_val r₀ r₁ r₂ r₃ r₄ ∷ [])
+        (FL.is_made (s₀.gives.first r₀) (s₁.gives.first r₁) (s₂.gives.first r₂) (s₃.gives.first r₃) (s₄.gives.first r₄) f₀ f₁ f₂ f₃ f₄) $
+        move ! (4 ∷ []) $ use1 𝓛 (‵ (fat full_share (raw_ty R.τ) b o (made_val r₀ r₁ r₂ r₃ r₄))) (𝓛.laws.at_raw full_share R.τ b o (made_val r₀ r₁ r₂ r₃ r₄)) $
+        move ! (0 ∷ 1 ∷ 29 ∷ 30 ∷ 31 ∷ []) $ closes ! tt (row_of R) (made r₀ r₁ r₂ r₃ r₄) (made_val r₀ r₁ r₂ r₃ r₄ ∷ []) b o $
+        owned ! (row of_u8) (Is (row of_u8)) (of_u8.makes 𝓛) (ask.gives.first a) (of_u8.val (ask.gives.first a) ∷ []) (ask.laws.is_first a _ is_a) $
+        returns ! (look ! 65 refl) $ forget ! 65 refl $ forget ! 7 refl $ forget ! 62 refl $ forget ! 60 refl $ forget ! 28 refl $ forget ! 24 refl $ forget ! 20 refl $ forget ! 16 refl $ forget ! 11 refl $ forget ! 12 refl $ forget ! 52 refl $ forget ! 50 refl $ forget ! 48 refl $ forget ! 25 refl $ forget ! 26 refl $ forget ! 27 refl $ forget ! 21 refl $ forget ! 22 refl $ forget ! 23 refl $ forget ! 17 refl $ forget ! 18 refl $ forget ! 19 refl $ forget ! 13 refl $ forget ! 14 refl $ forget ! 15 refl $ forget ! 8 refl $ forget ! 9 refl $ forget ! 10 refl $ forget ! 31 refl $
+        move ! (65 ∷ 66 ∷ []) $ free1 ! $ move ! (7 ∷ 64 ∷ []) $ free1 ! $ move ! (61 ∷ 62 ∷ []) $ free1 ! $ move ! (59 ∷ 60 ∷ []) $ free1 ! $ move ! (27 ∷ 58 ∷ []) $ free1 ! $ move ! (23 ∷ 56 ∷ []) $ free1 ! $ move ! (19 ∷ 54 ∷ []) $ free1 ! $ move ! (15 ∷ 52 ∷ []) $ free1 ! $ move ! (10 ∷ 50 ∷ []) $ free1 ! $ move ! (10 ∷ 48 ∷ []) $ free1 ! $ move ! (45 ∷ 46 ∷ []) $ free1 ! $ move ! (43 ∷ 44 ∷ []) $ free1 ! $ move ! (41 ∷ 42 ∷ []) $ free1 ! $ move ! (19 ∷ 40 ∷ []) $ free1 ! $ move ! (19 ∷ 38 ∷ []) $ free1 ! $ move ! (19 ∷ 36 ∷ []) $ free1 ! $ move ! (16 ∷ 34 ∷ []) $ free1 ! $ move ! (16 ∷ 32 ∷ []) $ free1 ! $ move ! (16 ∷ 30 ∷ []) $ free1 ! $ move ! (13 ∷ 28 ∷ []) $ free1 ! $ move ! (13 ∷ 26 ∷ []) $ free1 ! $ move ! (13 ∷ 24 ∷ []) $ free1 ! $ move ! (10 ∷ 22 ∷ []) $ free1 ! $ move ! (10 ∷ 20 ∷ []) $ free1 ! $ move ! (10 ∷ 18 ∷ []) $ free1 ! $ move ! (7 ∷ 16 ∷ []) $ free1 ! $ move ! (7 ∷ 14 ∷ []) $ free1 ! $ move ! (7 ∷ 12 ∷ []) $ free1 ! $ move ! (9 ∷ 10 ∷ []) $ free1 ! $ free0 ! $
+        keep ! (0 ∷ 1 ∷ 2 ∷ 4 ∷ 5 ∷ 3 ∷ 7 ∷ 6 ∷ 8 ∷ []) $ by ! (exits (made r₀ r₁ r₂ r₃ r₄) (s₄.gives.second r₄) (ask.gives.first a)
+        (law_taken h i w a r₀ r₁ r₂ r₃ r₄ asked none e₀ e₁ e₂ e₃ e₄)))))))))
+        -- not 0: nothing is stored; the number is returned, and the borrow of the record is closed
+        (λ some_no. skips ! $
+        exec ! C Λ (E l_result l_w l_i l_out l_a l_r₀ l_r₁ l_r₂ l_r₃ l_r₄ l_last l_input l_none l_part₀ l_handed₀ l_stored₀ l_part₁ l_handed₁ l_stored₁ l_part₂ l_handed₂ l_stored₂ l_part₃ l_handed₃ l_stored₃ l_part₄ l_handed₄ l_stored₄ l_output) ends_out (at_ret (E l_result l_w l_i l_out l_a l_r₀ l_r₁ l_r₂ l_r₃ l_r₄ l_last l_input l_none l_part₀ l_handed₀ l_stored₀ l_part₁ l_handed₁ l_stored₁ l_part₂ l_handed₂ l_stored₂ l_part₃ l_handed₃ l_stored₃ l_part₄ l_handed₄ l_stored₄ l_output) Post) $
+        assigns ! (of_opd ! (load ! (from ! (fld ! refl (stop !))) (look_in ! 57 (sub ! 0 refl (whole !))))) (from ! (stop !))
+        (init ! 65 refl ((of_u8.lawful 𝓛).typed (ask.gives.first a) _ (ask.laws.is_first a _ is_a)).0) $
+        owned ! (row_of R) (Is (row_of R)) (FL.makes 𝓛) h (parts_val h ∷ []) was $
+        move ! (3 ∷ []) $ use1 𝓛 (‵ (fat full_share (raw_ty R.τ) b o (parts_val h))) (𝓛.laws.at_raw full_share R.τ b o (parts_val h)) $
+        move ! (0 ∷ 1 ∷ 4 ∷ 5 ∷ 6 ∷ []) $ closes ! tt (row_of R) h (parts_val h ∷ []) b o $
+        owned ! (row of_u8) (Is (row of_u8)) (of_u8.makes 𝓛) (ask.gives.first a) (of_u8.val (ask.gives.first a) ∷ []) (ask.laws.is_first a _ is_a) $
+        returns ! (look ! 65 refl) $ forget ! 65 refl $ forget ! 63 refl $ forget ! 61 refl $ forget ! 59 refl $ forget ! 57 refl $ forget ! 45 refl $ forget ! 43 refl $ forget ! 41 refl $
+        move ! (65 ∷ 66 ∷ []) $ free1 ! $ move ! (63 ∷ 64 ∷ []) $ free1 ! $ move ! (61 ∷ 62 ∷ []) $ free1 ! $ move ! (59 ∷ 60 ∷ []) $ free1 ! $ move ! (57 ∷ 58 ∷ []) $ free1 ! $ move ! (55 ∷ 56 ∷ []) $ free1 ! $ move ! (53 ∷ 54 ∷ []) $ free1 ! $ move ! (51 ∷ 52 ∷ []) $ free1 ! $ move ! (49 ∷ 50 ∷ []) $ free1 ! $ move ! (47 ∷ 48 ∷ []) $ free1 ! $ move ! (45 ∷ 46 ∷ []) $ free1 ! $ move ! (43 ∷ 44 ∷ []) $ free1 ! $ move ! (41 ∷ 42 ∷ []) $ free1 ! $ move ! (39 ∷ 40 ∷ []) $ free1 ! $ move ! (37 ∷ 38 ∷ []) $ free1 ! $ move ! (35 ∷ 36 ∷ []) $ free1 ! $ move ! (33 ∷ 34 ∷ []) $ free1 ! $ move ! (31 ∷ 32 ∷ []) $ free1 ! $ move ! (29 ∷ 30 ∷ []) $ free1 ! $ move ! (27 ∷ 28 ∷ []) $ free1 ! $ move ! (25 ∷ 26 ∷ []) $ free1 ! $ move ! (23 ∷ 24 ∷ []) $ free1 ! $ move ! (21 ∷ 22 ∷ []) $ free1 ! $ move ! (19 ∷ 20 ∷ []) $ free1 ! $ move ! (17 ∷ 18 ∷ []) $ free1 ! $ move ! (15 ∷ 16 ∷ []) $ free1 ! $ move ! (13 ∷ 14 ∷ []) $ free1 ! $ move ! (11 ∷ 12 ∷ []) $ free1 ! $ move ! (9 ∷ 10 ∷ []) $ free1 ! $ free0 ! $
+        keep ! (0 ∷ 1 ∷ 2 ∷ 7 ∷ 8 ∷ 3 ∷ 4 ∷ 6 ∷ 5 ∷ []) $ by ! (exits h w (ask.gives.first a) (law_left h i w a asked some_no))))))))))))))))))))))))))))))))))))))
+    -- walk: end

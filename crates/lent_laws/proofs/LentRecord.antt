@@ -1,7 +1,7 @@
 -- Functions that take a record by `&mut` and an input by value, `fn f(w: &mut S, i: I) -> N`: the contract of one as a relation of the
 -- record and the input on entry, the record at exit and the result; and that a function whose code is walked meets it. Assumes nothing.
 --     LentWalk     what a walk of the code shows, from `lent_entry`; `lent_exit` ends it
---     lent-meets   the contract from the walk
+--     lent_meets   the contract from the walk
 -- The marked part is written by tools/walks/write, from the names in LentRecord.walk there.
 use mathlib.Core.Path.{refl}
 use Prim.Native.Nat.{ℕ}
@@ -65,7 +65,7 @@ module _ (S I N : PlainType) (Fin : Data S → Data I → Data S → Data N → 
     -- exit: written by tools/walks/write
     -- what is held at the end: the result, the record at its new value, and what came in
     abbrev held : Data S → Data N → Val → List (Item 𝓤)
-    held h' y v = ‵ ((row N).own y (v ∷ [])) ∷ ‵ (fobs γ ((row S).coded.code h')) ∷ ‵ (fbor κ (Body (mem (row S)) b o γ)) ∷ ‵ (flft κ q) ∷ []
+    held h' y v = ‵ ((row N).own_val y (v ∷ [])) ∷ ‵ (fobs γ ((row S).coded.code h')) ∷ ‵ (fbor κ (Body (mem (row S)) b o γ)) ∷ ‵ (flft κ q) ∷ []
 
     pub lent_exit : Is (row I) i (I.val i ∷ []) → (h' : Data S) (y : Data N) (v : Val) → Fin h i h' y → ent 𝓤 (⋆ 𝓛 (held h' y v)) (lent_post v)
     lent_exit is_i h' y v e =

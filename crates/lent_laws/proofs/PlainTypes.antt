@@ -1,25 +1,27 @@
 -- Plain types, with what the check proves of them: numbers, bools, floats, structs and enums, with no reference inside.
 --     PlainType        `of_struct`, `of_enum`, `of_u8`
---     Two, two-laws    a declared struct of two fields, and its laws from what the check proves of it
+--     Two, two_laws    a declared struct of two fields, and its laws from what the check proves of it
 --     Five             a declared struct of five fields
 use Prim.Native.Nat.{ℕ}
 use mathlib.Core.List.{[], ◌∷◌, List}
 use seplogic.Ra.Ura.{Ura}
 use mir.Syntax.{Sym, Ty, ty_struct, tcons, tnil, Written, w8, ty_int}
 use mir.Val.{Val, vint, vstruct, vcons, vnil}
-use base.Fml.{Fml}
+use base.Fml.{Fml, Lft}
 use base.Stored.{Coded}
 use types.Logic.{Logic}
 use types.Run.{first}
 use denote.RattleType.{RattleType}
 use denote.Laws.{Is, Typed, Tells, Makes, Lawful, Copy}
 use denote.Exit.{unchanged}
+use denote.Opens.{Opens}
+use denote.Copied.{uint_Copied}
 use denote.Builtin.{u8}
 use denote.Plain.{uint_Tells, uint_Lawful, uint_Makes, uint_copy}
 use denote.Struct.Struct.{Plains, layout}
-use denote.Struct.Declared.{Declared, fields, shape, row as Struct-Row}
+use denote.Struct.Declared.{Declared, fields, shape, row as struct_row}
 use denote.Struct.Laws as Struct
-use denote.Enum.Enum.{Plainss, Few, layout as enum-layout}
+use denote.Enum.Enum.{Plainss, Few, layout as enum_layout}
 use denote.Enum.Declared as enum
 use denote.Enum.Laws as Enum
 
@@ -29,11 +31,13 @@ pub record Shape : Type 2 where
   pub τ : Ty
   pub written : Written
   pub reaches : List (Written × List Ty)
+  pub lives : Lft
   pub own : X → List Val → Fml
   pub coded : Coded X
+  pub shr_at : X → ℕ → ℕ → Lft → Fml
 
 abbrev pub row_of : Shape → RattleType
-row_of S = record { Denot = S.X; mir = S.τ ∷ []; written = S.written; reaches = S.reaches; own_val = S.own; exit = λ k. unchanged; coded = S.coded }
+row_of S = record { Denot = S.X; mir = S.τ ∷ []; written = S.written; reaches = S.reaches; lives = S.lives; own_val = S.own; exit = λ k. unchanged; coded = S.coded; shr_at = S.shr_at }
 
 pub record PlainType : Type 2 where
   pub shape : Shape
@@ -42,37 +46,42 @@ pub record PlainType : Type 2 where
   pub lawful : {M : Type 1} {𝓤 : Ura M} (𝓛 : Logic 𝓤) → Lawful 𝓛 (row_of shape)
   pub makes : {M : Type 1} {𝓤 : Ura M} (𝓛 : Logic 𝓤) → Makes 𝓛 (row_of shape) (Is (row_of shape))
   pub copies : {M : Type 1} {𝓤 : Ura M} (𝓛 : Logic 𝓤) → Copy 𝓛 (row_of shape)
+  -- a `&` to it is looked into
+  pub opens : {M : Type 1} {𝓤 : Ura M} (𝓛 : Logic 𝓤) → Opens 𝓛 (row_of shape)
 
 -- a declared struct, from what the check makes of it: `of_struct S.the_type S'.the_laws S'.the_plain S'.the_copy`
 abbrev pub of_struct : (T : Declared) → Struct.Laws T → Plains (fields T) → Struct.Copyables T.parts → PlainType
 of_struct T L pl cs = record {
-  shape = record { X = T.D; τ = layout (shape T); written = (Struct-Row T).written; reaches = (Struct-Row T).reaches; own = (Struct-Row T).own; coded = (Struct-Row T).coded };
+  shape = record { X = T.D; τ = layout (shape T); written = (struct_row T).written; reaches = (struct_row T).reaches; lives = (struct_row T).lives; own = (struct_row T).own_val; coded = (struct_row T).coded; shr_at = (struct_row T).shr_at };
   val = Struct.val T L;
   tells = Struct.tells T L;
   lawful = λ 𝓛. record { typed = (Struct.lawful T L 𝓛).typed };
   makes = λ 𝓛. Struct.makes T pl 𝓛;
   copies = λ 𝓛. record { twice = (Struct.copy T cs 𝓛).twice };
+  opens = λ 𝓛. (Struct.copied T cs 𝓛).opens;
 }
 
 -- a declared enum, likewise
 abbrev pub of_enum : (T : enum.Declared) → Enum.Laws T → Few (enum.shape T) → Plainss (enum.variants T) → Enum.Copyabless T.parts → PlainType
 of_enum T L few pl cs = record {
-  shape = record { X = T.D; τ = enum-layout (enum.shape T); written = (enum.row T).written; reaches = (enum.row T).reaches; own = (enum.row T).own; coded = (enum.row T).coded };
+  shape = record { X = T.D; τ = enum_layout (enum.shape T); written = (enum.row T).written; reaches = (enum.row T).reaches; lives = (enum.row T).lives; own = (enum.row T).own_val; coded = (enum.row T).coded; shr_at = (enum.row T).shr_at };
   val = Enum.val T L;
   tells = Enum.tells T L;
   lawful = λ 𝓛. record { typed = (Enum.lawful T L 𝓛 few).typed };
   makes = λ 𝓛. Enum.makes T pl 𝓛;
   copies = λ 𝓛. record { twice = (Enum.copy T cs 𝓛).twice };
+  opens = λ 𝓛. (Enum.copied T cs 𝓛).opens;
 }
 
 abbrev pub of_u8 : PlainType
 of_u8 = record {
-  shape = record { X = ℕ; τ = ty_int w8; written = u8.written; reaches = u8.reaches; own = u8.own_val; coded = u8.coded };
+  shape = record { X = ℕ; τ = ty_int w8; written = u8.written; reaches = u8.reaches; lives = u8.lives; own = u8.own_val; coded = u8.coded; shr_at = u8.shr_at };
   val = vint w8;
   tells = uint_Tells w8;
   lawful = λ 𝓛. uint_Lawful 𝓛 w8;
   makes = λ 𝓛. uint_Makes 𝓛 w8;
   copies = λ 𝓛. uint_copy 𝓛 w8;
+  opens = λ 𝓛. (uint_Copied 𝓛 w8).opens;
 }
 
 abbrev pub row : PlainType → RattleType
@@ -89,16 +98,18 @@ pub record Two (S N : PlainType) : Type 2 where
   pub second : X → Data N
   pub written : Written
   pub reaches : List (Written × List Ty)
+  pub lives : Lft
   pub own : X → List Val → Fml
   pub coded : Coded X
+  pub shr_at : X → ℕ → ℕ → Lft → Fml
 
 -- of a declared struct T, by its two fields
 abbrev pub two_of : (S N : PlainType) (T : Declared) → (T.D → Data S) → (T.D → Data N) → Two S N
-two_of S N T first second = record { name = T.name; X = T.D; first = first; second = second; written = (Struct-Row T).written; reaches = (Struct-Row T).reaches; own = (Struct-Row T).own; coded = (Struct-Row T).coded }
+two_of S N T first second = record { name = T.name; X = T.D; first = first; second = second; written = (struct_row T).written; reaches = (struct_row T).reaches; lives = (struct_row T).lives; own = (struct_row T).own_val; coded = (struct_row T).coded; shr_at = (struct_row T).shr_at }
 
 module _ (S N : PlainType) (P : Two S N) where
   abbrev pub two_shape : Shape
-  two_shape = record { X = P.X; τ = ty_struct P.name (tcons S.shape.τ (tcons N.shape.τ tnil)); written = P.written; reaches = P.reaches; own = P.own; coded = P.coded }
+  two_shape = record { X = P.X; τ = ty_struct P.name (tcons S.shape.τ (tcons N.shape.τ tnil)); written = P.written; reaches = P.reaches; lives = P.lives; own = P.own; coded = P.coded; shr_at = P.shr_at }
 
   abbrev pub two_val : P.X → Val
   two_val x = vstruct (vcons (S.val (P.first x)) (vcons (N.val (P.second x)) vnil))
@@ -138,8 +149,10 @@ pub record Five (P₀ P₁ P₂ P₃ L : PlainType) : Type 2 where
   pub make : Data P₀ → Data P₁ → Data P₂ → Data P₃ → Data L → X
   pub written : Written
   pub reaches : List (Written × List Ty)
+  pub lives : Lft
   pub own : X → List Val → Fml
   pub coded : Coded X
+  pub shr_at : X → ℕ → ℕ → Lft → Fml
 
 module _ (P₀ P₁ P₂ P₃ L : PlainType) (F : Five P₀ P₁ P₂ P₃ L) where
   abbrev pub five_shape : Shape
@@ -148,8 +161,10 @@ module _ (P₀ P₁ P₂ P₃ L : PlainType) (F : Five P₀ P₁ P₂ P₃ L) wh
     τ = ty_struct F.name (tcons P₀.shape.τ (tcons P₁.shape.τ (tcons P₂.shape.τ (tcons P₃.shape.τ (tcons L.shape.τ tnil)))));
     written = F.written;
     reaches = F.reaches;
+    lives = F.lives;
     own = F.own;
     coded = F.coded;
+    shr_at = F.shr_at;
   }
 
   abbrev pub five_val : Data P₀ → Data P₁ → Data P₂ → Data P₃ → Data L → Val
