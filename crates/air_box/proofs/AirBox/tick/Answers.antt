@@ -1,10 +1,6 @@
 -- `air_box::AirBox::tick` meets its contract. Assumes nothing.
 use Rattle.air_box.specs.AirBox.{tick}
-use borrow.Author.Rules.{rules}
 use Rattle.air_box.proofs.AirBox.tick.Goals as goal
-
-enum_told : tie.Need-enum-told
-enum_told c = search rules
 
 pub returns-in-Refuse : goal.returns-in-Refuse
 unfolding tick
