@@ -160,7 +160,7 @@ stop_alike : (new old : AirBox) (k : Tick) → SameFields new old → fan k ≡ 
 unfolding accepted_tick accepted_with controller_output alarms alarms_armed true_delay true_delay_output
 stop_alike new old k same off =
     subst (λ (o : AirBox). accepted_tick new k ≡ accepted_with old_alarms o k) (sym (old_box new old same))
-    (rw (off, same.setpoint_nonzero, same.setpoint_on, same.low_half, same.low_seventy, same.flow_high, same.sensor_delay, same.damper_closed, same.leak_delay, and_false, and_false))
+    (rw (off, same.setpoint_nonzero, same.setpoint_on, same.low_half, same.low_seventy, same.flow_high, same.sensor_delay, same.damper_closed, and_false, and_false))
 
 -- ---- both boxes after a history of accepted ticks
 abbrev old_grown : Choices → List Tick → AirBox
