@@ -1,5 +1,6 @@
 // A tick of a box behind `&mut`, as the Rust's `output` has it: the method by value, and its box stored.
 #![tactic(auto)]
+
 ghost use Rattle.std.specs.Prelude.{◌≡◌};
 ghost use Rattle.air_box.specs.AirBox as AirBoxes;
 

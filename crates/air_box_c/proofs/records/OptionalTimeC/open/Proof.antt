@@ -7,9 +7,9 @@ returns : tie.Need-returns
 unfolding open_time
 returns c = rw c.if1.true
 
-returns_2 : tie.Need-returns-2
+returns-2 : tie.Need-returns-2
 unfolding open_time
-returns_2 c = rw c.if1.false
+returns-2 c = rw c.if1.false
 
 pub open_spec : {M : Type 1} → statement M
-open_spec = tie.close (tie.spec returns returns_2)
+open_spec = tie.close (tie.spec returns returns-2)

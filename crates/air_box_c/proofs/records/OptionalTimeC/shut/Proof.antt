@@ -11,8 +11,8 @@ returns : tie.Need-returns
 unfolding of_bits
 returns c = rw c.enum_told.given.1
 
-returns_2 : tie.Need-returns-2
-returns_2 c = rw c.before.s.given.1
+returns-2 : tie.Need-returns-2
+returns-2 c = rw c.before.s.given.1
 
 pub shut_spec : {M : Type 1} → statement M
-shut_spec = tie.close (tie.spec enum_told (λ c. search rules) returns returns_2)
+shut_spec = tie.close (tie.spec enum_told (λ c. search rules) returns returns-2)
