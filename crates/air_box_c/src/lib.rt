@@ -1,5 +1,6 @@
 // The C interface: the exported functions. The box as a record of numbers and flags is in records.rt, the parts of a tick are in stages.rt.
 #![tactic(auto)]
+
 ghost use Rattle.std.specs.Prelude.{◌≡◌};
 ghost use Rattle.box_choices.specs.BoxChoices as BoxChoices;
 ghost use Rattle.air_box.specs.AirBox as AirBoxes;
