@@ -62,6 +62,7 @@ fn cannot_write(rt: HostRuntime, error: io::Error) {
     let mut said = Cursor::new(&mut text[..]);
     let _ = write!(said, "{error}");
     let end = said.position() as usize;
+    let end = end.min(text.len());
     let said = str::from_utf8(&text[..end]).unwrap_or("");
     let reason = match said.split_once(" (os error ") {
         Some((words, _)) => words,
