@@ -1,8 +1,7 @@
 /* Loaded before the C library, makes standard input and output fail as FAULTS says, a word and a number:
    interrupted 0     every second read and write is interrupted or would block, the others move at most 1,000 bytes
    read N, write N   the first N bytes are read or written, and from there on every call fails with EIO
-   zero N            the first N bytes are written, and from there on no write takes a byte, or fails
-   close 0           the close of standard output fails with EIO */
+   zero N            the first N bytes are written, and from there on no write takes a byte, or fails */
 #define _GNU_SOURCE
 #include <dlfcn.h>
 #include <errno.h>
@@ -14,7 +13,6 @@
 
 typedef ssize_t Reads(int, void *, size_t);
 typedef ssize_t Writes(int, const void *, size_t);
-typedef int Closes(int);
 
 /* Whether FAULTS has this word, and its number. */
 static bool told(const char *word, size_t *number) {
@@ -61,13 +59,4 @@ ssize_t write(int fd, const void *at, size_t n) {
     bool zero = told("zero", &number);
     size_t most = allowed(zero ? "zero" : "write", n, done);
     return most == 0 ? (zero ? 0 : -1) : counted(real(fd, at, most), &done);
-}
-
-int close(int fd) {
-    size_t number;
-    Closes *real;
-    *(void **)&real = dlsym(RTLD_NEXT, "close");
-    if (fd != 1 || !told("close", &number)) return real(fd);
-    errno = EIO;
-    return -1;
 }

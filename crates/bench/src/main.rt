@@ -1,9 +1,10 @@
 // Bench cases that are run: document 01's first ticks 130, 190 and 250 and every refusal, and document 02's quiet start with low flow, which is proved too, night of a leak with low flow, and dead bands with their memory. What it prints is held to the file stdout.
 #![tactic(auto)]
+
 use air_box::{AirBox, AirBoxStep, Answer, Start, Tick};
 use cdl_recurrences::{DeadBandOutput, greater_hysteretic, hysteresis, less_hysteretic};
 use cooling_only_controller::ControllerInput;
-use libc::STDOUT_FILENO;
+use std::io::{self, Cursor, Write};
 
 // A tick in mode 1 with calm readings, but for the seven that the cases vary.
 fn tick_of(
@@ -49,14 +50,25 @@ fn number(step: AirBoxStep) -> u64 {
     }
 }
 
-fn print(label: &[u8], n: u64) {
-    if !(io::write_all(STDOUT_FILENO, label)
-        && io::write_all(STDOUT_FILENO, b" ")
-        && io::print_decimal(STDOUT_FILENO, n)
-        && io::write_all(STDOUT_FILENO, b"\n"))
-    {
-        os::fail(b"bench: cannot write");
+fn print(rt: HostRuntime, label: &str, n: u64) {
+    if let Err(error) = println!(rt; "{label} {n}") {
+        cannot_write(rt, error);
     }
+}
+
+// The reason is told in the system's words, without the number that std puts behind them, as ` (os error 28)`.
+fn cannot_write(rt: HostRuntime, error: io::Error) {
+    let mut text = [0u8; 128];
+    let mut said = Cursor::new(&mut text[..]);
+    let _ = write!(said, "{error}");
+    let end = said.position() as usize;
+    let end = end.min(text.len());
+    let said = str::from_utf8(&text[..end]).unwrap_or("");
+    let reason = match said.split_once(" (os error ") {
+        Some((words, _)) => words,
+        None => said,
+    };
+    let _ = eprintln!(rt; "bench: cannot write: {reason}");
 }
 
 fn flag(b: bool) -> u64 {
@@ -64,55 +76,66 @@ fn flag(b: bool) -> u64 {
 }
 
 // The unit delay gives 0.0 at 250 after a first tick off the grid, so a setpoint change is seen there.
-fn first_ticks() {
+fn first_ticks(rt: HostRuntime) {
     let first = AirBox::fresh(Start::Plain).tick(at(130.0)).state;
     let second = first.tick(at(190.0)).state;
     let third = second.tick(at(250.0)).state;
     print(
-        b"130 suppression",
+        rt,
+        "130 suppression",
         flag(first.state.time_suppression.previous_active),
     );
     print(
-        b"190 suppression",
+        rt,
+        "190 suppression",
         flag(second.state.time_suppression.previous_active),
     );
     print(
-        b"250 suppression",
+        rt,
+        "250 suppression",
         flag(third.state.time_suppression.previous_active),
     );
     let delayed = third.state.time_suppression.previous_sample.held;
-    print(b"250 unit delay gives 0.0", flag(delayed == 0.0));
+    print(rt, "250 unit delay gives 0.0", flag(delayed == 0.0));
 }
 
-fn refusals_of_time() {
+fn refusals_of_time(rt: HostRuntime) {
     let fresh = AirBox::fresh(Start::Plain);
-    print(b"t 0.5 gives", number(fresh.tick(at(0.5))));
-    print(b"t infinity gives", number(fresh.tick(at(1.0 / 0.0))));
-    print(b"t -1 gives", number(fresh.tick(at(-1.0))));
-    print(b"t -0.0 gives", number(fresh.tick(at(-0.0))));
-    print(b"t 2147483648 gives", number(fresh.tick(at(2147483648.0))));
-    print(b"t 2147483649 gives", number(fresh.tick(at(2147483649.0))));
+    print(rt, "t 0.5 gives", number(fresh.tick(at(0.5))));
+    print(rt, "t infinity gives", number(fresh.tick(at(1.0 / 0.0))));
+    print(rt, "t -1 gives", number(fresh.tick(at(-1.0))));
+    print(rt, "t -0.0 gives", number(fresh.tick(at(-0.0))));
+    print(
+        rt,
+        "t 2147483648 gives",
+        number(fresh.tick(at(2147483648.0))),
+    );
+    print(
+        rt,
+        "t 2147483649 gives",
+        number(fresh.tick(at(2147483649.0))),
+    );
     let last = fresh.tick(at(1000.0)).state;
-    print(b"last 1000, 999 gives", number(last.tick(at(999.0))));
-    print(b"last 1000, 1000 gives", number(last.tick(at(1000.0))));
-    print(b"last 1000, 1240 gives", number(last.tick(at(1240.0))));
-    print(b"last 1000, 1241 gives", number(last.tick(at(1241.0))));
+    print(rt, "last 1000, 999 gives", number(last.tick(at(999.0))));
+    print(rt, "last 1000, 1000 gives", number(last.tick(at(1000.0))));
+    print(rt, "last 1000, 1240 gives", number(last.tick(at(1240.0))));
+    print(rt, "last 1000, 1241 gives", number(last.tick(at(1241.0))));
 }
 
-fn refusals_of_readings() {
+fn refusals_of_readings(rt: HostRuntime) {
     let fresh = AirBox::fresh(Start::Plain);
     let cold = tick_of(0.0, 150.0, 600.0, 0.5, 0, 0, true);
-    print(b"zone 150.0 gives", number(fresh.tick(cold)));
+    print(rt, "zone 150.0 gives", number(fresh.tick(cold)));
     let hot = tick_of(0.0, 450.0, 600.0, 0.5, 0, 0, true);
-    print(b"zone 450.0 gives", number(fresh.tick(hot)));
+    print(rt, "zone 450.0 gives", number(fresh.tick(hot)));
     let colder = tick_of(0.0, 149.9, 600.0, 0.5, 0, 0, true);
-    print(b"zone 149.9 gives", number(fresh.tick(colder)));
+    print(rt, "zone 149.9 gives", number(fresh.tick(colder)));
     let stale = tick_of(0.0, 296.0, 10000.5, 0.5, 0, 0, true);
-    print(b"CO2 10000.5 gives", number(fresh.tick(stale)));
+    print(rt, "CO2 10000.5 gives", number(fresh.tick(stale)));
     let backward = tick_of(0.0, 296.0, 600.0, -10.5, 0, 0, true);
-    print(b"flow -10.5 gives", number(fresh.tick(backward)));
+    print(rt, "flow -10.5 gives", number(fresh.tick(backward)));
     let nothing = tick_of(0.5, 0.0 / 0.0, 600.0, 0.5, 0, 0, true);
-    print(b"t 0.5 with zone NaN gives", number(fresh.tick(nothing)));
+    print(rt, "t 0.5 with zone NaN gives", number(fresh.tick(nothing)));
 }
 
 #[derive(Clone, Copy)]
@@ -140,7 +163,7 @@ fn alarms_of(step: AirBoxStep) -> Alarms {
 }
 
 // Fan on and low flow from tick 0: when the fan is armed, and when the low alarm first stands.
-fn quiet_start() {
+fn quiet_start(rt: HostRuntime) {
     let mut b = AirBox::fresh(Start::Quiet);
     let mut armed_before = false;
     let mut alarm_before = false;
@@ -152,11 +175,11 @@ fn quiet_start() {
         b = state;
         let armed = b.state.alarms.fan_armed.held;
         if armed & !armed_before {
-            print(b"quiet start armed at", seconds);
+            print(rt, "quiet start armed at", seconds);
         }
         let alarm = alarms_of(step).low_airflow != 0;
         if alarm & !alarm_before {
-            print(b"quiet start low alarm at", seconds);
+            print(rt, "quiet start low alarm at", seconds);
         }
         armed_before = armed;
         alarm_before = alarm;
@@ -168,20 +191,34 @@ fn shut(t: f64, flow: f64, fan: bool) -> Tick {
     tick_of(t, 296.0, 600.0, flow, 3, 1, fan)
 }
 
-fn print_code(label: &[u8], low_airflow: i64, airflow_sensor: i64, leaking_damper: i64) {
+fn print_code(
+    rt: HostRuntime,
+    label: &str,
+    low_airflow: i64,
+    airflow_sensor: i64,
+    leaking_damper: i64,
+) {
     print(
+        rt,
         label,
         air_box::desk_code(low_airflow, airflow_sensor, leaking_damper) as u64,
     );
 }
 
 // The code that the low alarm and the leak alarm would have alone, and the code.
-fn print_codes(seconds: u64, alarms: Alarms) {
-    print(b"leak and low flow at", seconds);
-    print_code(b"code of the low alarm alone", alarms.low_airflow, 0, 0);
-    print_code(b"code of the leak alarm alone", 0, 0, alarms.leaking_damper);
+fn print_codes(rt: HostRuntime, seconds: u64, alarms: Alarms) {
+    print(rt, "leak and low flow at", seconds);
+    print_code(rt, "code of the low alarm alone", alarms.low_airflow, 0, 0);
     print_code(
-        b"code",
+        rt,
+        "code of the leak alarm alone",
+        0,
+        0,
+        alarms.leaking_damper,
+    );
+    print_code(
+        rt,
+        "code",
         alarms.low_airflow,
         alarms.airflow_sensor,
         alarms.leaking_damper,
@@ -189,7 +226,7 @@ fn print_codes(seconds: u64, alarms: Alarms) {
 }
 
 // Flow 0.3 past the shut damper, from the minute after a first tick with the fan off: the codes wherever the low alarm or the leak alarm comes or goes.
-fn leak_and_low_flow() {
+fn leak_and_low_flow(rt: HostRuntime) {
     let first = shut(0.0, 0.0, false);
     let mut b = AirBox::fresh(Start::Plain).tick(first).state;
     let mut low_before = 0;
@@ -201,7 +238,7 @@ fn leak_and_low_flow() {
         b = state;
         let now = alarms_of(step);
         if (now.low_airflow != low_before) | (now.leaking_damper != leak_before) {
-            print_codes(seconds, now);
+            print_codes(rt, seconds, now);
         }
         low_before = now.low_airflow;
         leak_before = now.leaking_damper;
@@ -214,40 +251,50 @@ fn flag_if(sound: bool, b: bool) -> u64 {
 }
 
 // What a box keeps as flow high after a tick with this flow, and whether memory decided that, by the alarms stage's comparison at the memory from before. The tick has to be accepted, and the two answers the same.
-fn print_flow(is_high: &[u8], decided: &[u8], flow: f64, before: bool, step: AirBoxStep) {
+fn print_flow(
+    rt: HostRuntime,
+    is_high: &str,
+    decided: &str,
+    flow: f64,
+    before: bool,
+    step: AirBoxStep,
+) {
     let compared = greater_hysteretic(flow, 0.1 * 1.5, 0.01, before);
     let after = step.state.state.alarms.flow_high;
     let sound = (number(step) == 0) & (compared.output == after);
-    print(is_high, flag_if(sound, after));
-    print(decided, flag_if(sound, compared.decided_by_memory));
+    print(rt, is_high, flag_if(sound, after));
+    print(rt, decided, flag_if(sound, compared.decided_by_memory));
 }
 
 fn flow_at(t: f64, flow: f64) -> Tick {
     tick_of(t, 296.0, 600.0, flow, 0, 0, false)
 }
 
-fn flow_of_0_145() {
+fn flow_of_0_145(rt: HostRuntime) {
     let fresh = AirBox::fresh(Start::Plain);
     let before_any = fresh.state.alarms.flow_high;
     print_flow(
-        b"first flow 0.145 is high",
-        b"first flow 0.145 by memory",
+        rt,
+        "first flow 0.145 is high",
+        "first flow 0.145 by memory",
         0.145,
         before_any,
         fresh.tick(flow_at(0.0, 0.145)),
     );
     let after_0_16 = fresh.tick(flow_at(0.0, 0.16));
     print_flow(
-        b"flow 0.16 is high",
-        b"flow 0.16 by memory",
+        rt,
+        "flow 0.16 is high",
+        "flow 0.16 by memory",
         0.16,
         before_any,
         after_0_16,
     );
     let b = after_0_16.state;
     print_flow(
-        b"flow 0.145 after 0.16 is high",
-        b"flow 0.145 after 0.16 by memory",
+        rt,
+        "flow 0.145 after 0.16 is high",
+        "flow 0.145 after 0.16 by memory",
         0.145,
         b.state.alarms.flow_high,
         b.tick(flow_at(60.0, 0.145)),
@@ -306,26 +353,18 @@ fn next_down(x: f64) -> f64 {
     f64_helpers::choose(neighbours(down, x), down, x)
 }
 
-fn print_next(n: u64) -> bool {
-    io::write_all(STDOUT_FILENO, b" ") && io::print_decimal(STDOUT_FILENO, n)
-}
-
 // The f64 outside of the low end, the one inside of it, the one inside of the high end, the one outside of it.
-fn print_ends(label: &[u8], below: u64, lowest: u64, highest: u64, above: u64) {
-    if !(io::write_all(STDOUT_FILENO, b"by memory at both ends of ")
-        && io::write_all(STDOUT_FILENO, label)
-        && print_next(below)
-        && print_next(lowest)
-        && print_next(highest)
-        && print_next(above)
-        && io::write_all(STDOUT_FILENO, b"\n"))
-    {
-        os::fail(b"bench: cannot write");
+fn print_ends(rt: HostRuntime, label: &str, below: u64, lowest: u64, highest: u64, above: u64) {
+    if let Err(error) = println!(rt;
+        "by memory at both ends of {label} {below} {lowest} {highest} {above}"
+    ) {
+        cannot_write(rt, error);
     }
 }
 
-fn hysteresis_band(label: &[u8], low: f64, high: f64) {
+fn hysteresis_band(rt: HostRuntime, label: &str, low: f64, high: f64) {
     print_ends(
+        rt,
         label,
         hysteresis_by_memory(next_down(low), low, high),
         hysteresis_by_memory(low, low, high),
@@ -334,8 +373,9 @@ fn hysteresis_band(label: &[u8], low: f64, high: f64) {
     );
 }
 
-fn less_band(label: &[u8], u2: f64, h: f64) {
+fn less_band(rt: HostRuntime, label: &str, u2: f64, h: f64) {
     print_ends(
+        rt,
         label,
         less_by_memory(next_down(u2), u2, h),
         less_by_memory(u2, u2, h),
@@ -344,8 +384,9 @@ fn less_band(label: &[u8], u2: f64, h: f64) {
     );
 }
 
-fn greater_band(label: &[u8], u2: f64, h: f64) {
+fn greater_band(rt: HostRuntime, label: &str, u2: f64, h: f64) {
     print_ends(
+        rt,
         label,
         greater_by_memory(u2 - h, u2, h),
         greater_by_memory(next_up(u2 - h), u2, h),
@@ -355,30 +396,30 @@ fn greater_band(label: &[u8], u2: f64, h: f64) {
 }
 
 // Every dead band of the controller. One that moves with another reading stands where that is at a usual number.
-fn dead_bands() {
-    hysteresis_band(b"heating_signal, cooling_signal", 0.01, 0.05);
-    hysteresis_band(b"heating_tiebreak", -0.01, 0.01);
-    hysteresis_band(b"hot_three", 2.75, 3.0);
-    hysteresis_band(b"hot_two", 1.75, 2.0);
-    hysteresis_band(b"cooling_high, damper_high", 0.94, 0.95);
-    hysteresis_band(b"setpoint_on, setpoint_nonzero", 0.005, 0.01);
-    less_band(b"cooling_enable, heating_enable", 297.0, 0.25);
-    less_band(b"cooling_near_zero, heating_near_zero", 0.01, 0.008);
-    less_band(b"low_half", 0.5 * 0.5, 0.01);
-    less_band(b"damper_closed", 0.01, 0.5 * 0.01);
-    greater_band(b"change_detected", 0.25, 0.5 * 0.25);
-    greater_band(b"cooling_supply", 288.0, 0.25);
-    greater_band(b"supply_warm", 296.0, 0.25);
-    greater_band(b"starved_half, starved_seventy, low_seventy", 0.3, 0.01);
-    greater_band(b"flow_high", 0.1 * 1.5, 0.01);
+fn dead_bands(rt: HostRuntime) {
+    hysteresis_band(rt, "heating_signal, cooling_signal", 0.01, 0.05);
+    hysteresis_band(rt, "heating_tiebreak", -0.01, 0.01);
+    hysteresis_band(rt, "hot_three", 2.75, 3.0);
+    hysteresis_band(rt, "hot_two", 1.75, 2.0);
+    hysteresis_band(rt, "cooling_high, damper_high", 0.94, 0.95);
+    hysteresis_band(rt, "setpoint_on, setpoint_nonzero", 0.005, 0.01);
+    less_band(rt, "cooling_enable, heating_enable", 297.0, 0.25);
+    less_band(rt, "cooling_near_zero, heating_near_zero", 0.01, 0.008);
+    less_band(rt, "low_half", 0.5 * 0.5, 0.01);
+    less_band(rt, "damper_closed", 0.01, 0.5 * 0.01);
+    greater_band(rt, "change_detected", 0.25, 0.5 * 0.25);
+    greater_band(rt, "cooling_supply", 288.0, 0.25);
+    greater_band(rt, "supply_warm", 296.0, 0.25);
+    greater_band(rt, "starved_half, starved_seventy, low_seventy", 0.3, 0.01);
+    greater_band(rt, "flow_high", 0.1 * 1.5, 0.01);
 }
 
-fn main() {
-    first_ticks();
-    refusals_of_time();
-    refusals_of_readings();
-    quiet_start();
-    leak_and_low_flow();
-    flow_of_0_145();
-    dead_bands();
+fn main(rt: HostRuntime) {
+    first_ticks(rt);
+    refusals_of_time(rt);
+    refusals_of_readings(rt);
+    quiet_start(rt);
+    leak_and_low_flow(rt);
+    flow_of_0_145(rt);
+    dead_bands(rt);
 }
