@@ -1,9 +1,9 @@
 -- The air box of document 01: the Rust's state with the last accepted time and what was chosen when it was built beside it,
 -- the questions asked of a tick, the quiet start, building (document 02, N13) and the desk code.
-use Rattle.std.specs.Prelude.{ℕ, Bool, true, false, not, ◌&&◌, ◌⊎◌, ℤ, Float}
+use Rattle.std.specs.Prelude.{ℕ, Bool, true, false, not, ◌&&◌, ◌⊎◌, ℤ, Float, if◌then◌else◌}
 use Rattle.std.proofs.Common.{inl, inr}
 use Rattle.std.specs.Float.Ieee.{neg}
-use Rattle.f64_helpers.specs.F64.{◌⊖◌, ◌≤ᶠ◌, ◌≥ᶠ◌, decimal, zero, if◌then◌else◌}
+use Rattle.f64_helpers.specs.F64.{◌⊖◌, ◌≤ᶠ◌, ◌≥ᶠ◌, decimal, zero}
 use Rattle.f64_helpers.specs.Helpers.{is_whole}
 use Rattle.f64_helpers.specs.Integers.{◌==ᶻ◌}
 use Rattle.box_choices.specs.BoxChoices.{usual}
@@ -89,13 +89,13 @@ yes AirflowOutOfRange last k = within k.input.discharge_airflow (neg (decimal 10
 unfoldable pub questions : OptionalTime → Tick → Verdict
 questions last k =
     if not (yes NotWholeSeconds last k) then Refuse NotWholeSeconds
-    else if not (yes TimeOutOfRange last k) then Refuse TimeOutOfRange
-    else if not (yes BeforeLast last k) then Refuse BeforeLast
-    else if not (yes TooLongAfterLast last k) then Refuse TooLongAfterLast
-    else if not (yes TemperatureOutOfRange last k) then Refuse TemperatureOutOfRange
-    else if not (yes Co2OutOfRange last k) then Refuse Co2OutOfRange
-    else if not (yes AirflowOutOfRange last k) then Refuse AirflowOutOfRange
-    else Accept
+    else (if not (yes TimeOutOfRange last k) then Refuse TimeOutOfRange
+    else (if not (yes BeforeLast last k) then Refuse BeforeLast
+    else (if not (yes TooLongAfterLast last k) then Refuse TooLongAfterLast
+    else (if not (yes TemperatureOutOfRange last k) then Refuse TemperatureOutOfRange
+    else (if not (yes Co2OutOfRange last k) then Refuse Co2OutOfRange
+    else (if not (yes AirflowOutOfRange last k) then Refuse AirflowOutOfRange
+    else Accept))))))
 
 -- ---- the box
 
@@ -159,7 +159,7 @@ box_or_number Builts.Refused = inr (built_number Builts.Refused)
 unfoldable pub desk_code : ℤ → ℤ → ℤ → ℕ
 desk_code low_airflow airflow_sensor leaking_damper =
     if leaking_damper ==ᶻ 4 then 34
-    else if low_airflow ==ᶻ 2 then 12
-    else if low_airflow ==ᶻ 3 then 13
-    else if airflow_sensor ==ᶻ 3 then 23
-    else 0
+    else (if low_airflow ==ᶻ 2 then 12
+    else (if low_airflow ==ᶻ 3 then 13
+    else (if airflow_sensor ==ᶻ 3 then 23
+    else 0)))

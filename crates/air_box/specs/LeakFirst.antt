@@ -1,8 +1,8 @@
 -- Document 02, N7: the leak comes first in the desk code. Which codes move by that, and which alarms can stand together.
 -- The method `AirBox::tick` is proved to return `tick`, of which `given_for` is made, and `desk_code` to return `desk_code`.
-use Rattle.std.specs.Prelude.{◌≡◌, ◌↔◌, ◌⊎◌, ◌≢◌, List, [], ◌∷◌, ℕ, true, pos}
+use Rattle.std.specs.Prelude.{◌≡◌, ◌↔◌, ◌⊎◌, ◌≢◌, List, [], ◌∷◌, ℕ, true, pos, if◌then◌else◌}
 use Rattle.std.proofs.Common.{inl}
-use Rattle.f64_helpers.specs.F64.{decimal, if◌then◌else◌}
+use Rattle.f64_helpers.specs.F64.{decimal}
 use Rattle.f64_helpers.specs.Integers.{◌==ᶻ◌}
 use Rattle.cooling_only_controller.specs.declared.ControllerOutput.{ControllerOutput}
 use Rattle.cooling_only_controller_airflow.specs.declared.AlarmOutput.{AlarmOutput}
@@ -39,10 +39,10 @@ code a = desk_code a.low_airflow a.airflow_sensor a.leaking_damper
 abbrev pub old_code : AlarmOutput → ℕ
 old_code a =
     if a.low_airflow ==ᶻ 2 then 12
-    else if a.low_airflow ==ᶻ 3 then 13
-    else if a.airflow_sensor ==ᶻ 3 then 23
-    else if a.leaking_damper ==ᶻ 4 then 34
-    else 0
+    else (if a.low_airflow ==ᶻ 3 then 13
+    else (if a.airflow_sensor ==ᶻ 3 then 23
+    else (if a.leaking_damper ==ᶻ 4 then 34
+    else 0)))
 
 -- ---- the list of changes
 

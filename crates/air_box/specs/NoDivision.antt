@@ -2,10 +2,10 @@
 -- `buildings_round_six` takes the shorter way, what that gives, and that what an accepted tick hands to it is among them.
 -- That code asks `is_time`. Its one function that multiplies or divides by 1,000,000, `round_six_by_division`, requires that `is_time`
 -- says no, so that the check of its caller shows that it is called for no other number.
-use Rattle.std.specs.Prelude.{◌≡◌, ◌↔◌, T, Float}
+use Rattle.std.specs.Prelude.{◌≡◌, ◌↔◌, T, Float, if◌then◌else◌}
 use Rattle.std.specs.Float.{binary64}
 use Rattle.std.specs.Float.Ieee.{fits, neg}
-use Rattle.f64_helpers.specs.F64.{◌⊗◌, ◌⊘◌, ◌>ᶠ◌, zero, if◌then◌else◌}
+use Rattle.f64_helpers.specs.F64.{◌⊗◌, ◌⊘◌, ◌>ᶠ◌, zero}
 use Rattle.f64_helpers.specs.Helpers.{floor}
 use Rattle.f64_helpers.specs.Seconds.{IsTime, is_time}
 use Rattle.box_choices.specs.declared.Choices.{Choices}

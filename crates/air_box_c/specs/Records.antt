@@ -1,7 +1,7 @@
 -- The records of the C interface: what state each stands for (`open`), and the record of a state (`shut`), from the time to the box.
 -- An absent time is the flag false; the number beside it then has no meaning, and `shut` writes 0 there.
-use Rattle.std.specs.Prelude.{true, false}
-use Rattle.f64_helpers.specs.F64.{zero, if◌then◌else◌}
+use Rattle.std.specs.Prelude.{true, false, if◌then◌else◌}
+use Rattle.f64_helpers.specs.F64.{zero}
 use Rattle.box_choices.specs.declared.Choices.{Choices}
 use Rattle.cdl_recurrences.specs.declared.OptionalTime.{OptionalTime}
 use Rattle.cdl_recurrences.specs.declared.OptionalTime.TheVariants.{Absent, At}

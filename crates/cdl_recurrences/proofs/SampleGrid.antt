@@ -12,7 +12,8 @@ use lib.Ieee.Fits.{down_pos, div-fits}
 use lib.Ieee.Exact.{HasValue}
 use lib.Ieee.Back.{whole_unique}
 use lib.Ieee.Scale.{round_same}
-use Rattle.f64_helpers.specs.F64.{◌⊕◌, ◌⊖◌, ◌⊗◌, ◌⊘◌, ◌>ᶠ◌, decimal, zero as zeroᶠ, if◌then◌else◌}
+use Rattle.f64_helpers.specs.F64.{◌⊕◌, ◌⊖◌, ◌⊗◌, ◌⊘◌, ◌>ᶠ◌, decimal, zero as zeroᶠ}
+use Rattle.std.specs.Prelude.{if◌then◌else◌}
 use Rattle.f64_helpers.specs.Helpers.{floor, ceil, negative}
 use Rattle.f64_helpers.specs.Seconds.{Whole, seconds, is_time}
 use Rattle.f64_helpers.proofs.WholeSeconds.{zero_whole, lt_whole, sub_whole, same_test}

@@ -1,9 +1,9 @@
 -- The pieces in which the code of this crate computes `dead_band_output` and `true_delay_output` of CdlRecurrences.antt,
 -- under the names of their functions.
 -- The proofs of the callers tie them to the wholes; a reader of those need not open this file.
-use Rattle.std.specs.Prelude.{Bool, true, not, ◌&&◌, ◌||◌, Float}
+use Rattle.std.specs.Prelude.{Bool, true, not, ◌&&◌, ◌||◌, Float, if◌then◌else◌}
 use Rattle.std.specs.Bool.{xor}
-use Rattle.f64_helpers.specs.F64.{◌⊕◌, ◌⊖◌, ◌≤ᶠ◌, ◌≥ᶠ◌, zero, if◌then◌else◌}
+use Rattle.f64_helpers.specs.F64.{◌⊕◌, ◌⊖◌, ◌≤ᶠ◌, ◌≥ᶠ◌, zero}
 use Rattle.f64_helpers.specs.Helpers.{max}
 use Rattle.cdl_recurrences.specs.declared.DeadBandOutput.{DeadBandOutput}
 use Rattle.cdl_recurrences.specs.declared.TrueDelayOutput.{TrueDelayOutput}
@@ -18,5 +18,5 @@ unfoldable pub true_delay_running : Float → Float → Float → Bool → Bool 
 true_delay_running t delay previous_time prev_u held timer =
     let next_timer = timer ⊕ max (t ⊖ previous_time) zero in
     if held then record { output = true; timer = delay }
-    else if not prev_u then record { output = delay ≤ᶠ zero; timer = zero }
-    else record { output = next_timer ≥ᶠ delay; timer = next_timer }
+    else (if not prev_u then record { output = delay ≤ᶠ zero; timer = zero }
+    else record { output = next_timer ≥ᶠ delay; timer = next_timer })

@@ -2,10 +2,10 @@
 -- Each definition names its Rust function and, where there is one, its block of the Modelica Buildings library (CDL).
 -- Document 01 decides `clamp`, `hysteresis`, `less_hysteretic`, `sampler_output`, `initial_sample_time`, `sample_index` and `sample_due`;
 -- docs/DIFFERENCES.md has the pairs that were found to differ.
-use Rattle.std.specs.Prelude.{Bool, true, false, not, ◌&&◌, ◌||◌, ℤ, Float}
+use Rattle.std.specs.Prelude.{Bool, true, false, not, ◌&&◌, ◌||◌, ℤ, Float, if◌then◌else◌}
 use Rattle.std.specs.Bool.{xor}
 use Rattle.std.specs.Int.Signed.{lt_z}
-use Rattle.f64_helpers.specs.F64.{◌⊕◌, ◌⊖◌, ◌⊗◌, ◌⊘◌, ◌<ᶠ◌, ◌>ᶠ◌, ◌≤ᶠ◌, ◌≥ᶠ◌, decimal, zero, if◌then◌else◌}
+use Rattle.f64_helpers.specs.F64.{◌⊕◌, ◌⊖◌, ◌⊗◌, ◌⊘◌, ◌<ᶠ◌, ◌>ᶠ◌, ◌≤ᶠ◌, ◌≥ᶠ◌, decimal, zero}
 use Rattle.f64_helpers.specs.Helpers.{floor, ceil, max, as_i64}
 use Rattle.cdl_recurrences.specs.declared.OptionalTime.{OptionalTime}
 use Rattle.cdl_recurrences.specs.declared.OptionalTime.TheVariants.{Absent, At}
@@ -15,7 +15,7 @@ use Rattle.cdl_recurrences.specs.declared.SampleDue.{SampleDue}
 
 -- Rust `clamp`, by comparisons: the nearer end for a number outside of min .. max, any other number as it is, a NaN too
 unfoldable pub clamp : Float → Float → Float → Float
-clamp value min max = if value <ᶠ min then min else if value >ᶠ max then max else value
+clamp value min max = if value <ᶠ min then min else (if value >ᶠ max then max else value)
 
 -- Rust `buildings_line`; CDL.Reals.Line, with both limits: the line through (x1, f1) and (x2, f2) at u, which is first limited to x1 .. x2
 unfoldable pub buildings_line : Float → Float → Float → Float → Float → Float
@@ -57,8 +57,8 @@ true_delay_output t true delay_time delay_on_init (At previous_time) prev_u held
     let delay = max delay_time zero in
     let next_timer = timer ⊕ max (t ⊖ previous_time) zero in
     if held then record { output = true; timer = delay }
-    else if not prev_u then record { output = delay ≤ᶠ zero; timer = zero }
-    else record { output = next_timer ≥ᶠ delay; timer = next_timer }
+    else (if not prev_u then record { output = delay ≤ᶠ zero; timer = zero }
+    else record { output = next_timer ≥ᶠ delay; timer = next_timer })
 
 -- Rust `buildings_round_six`: to six decimals, a half away from 0
 unfoldable pub buildings_round_six : Float → Float

@@ -5,7 +5,7 @@ use Prim.Native.Nat.{ℕ}
 use mathlib.Core.Bool.{Bool, true, false, ◌&&◌}
 use lib.IntN.{ℤ, pos}
 use lib.Ieee.{Float}
-use Rattle.f64_helpers.specs.F64.{if◌then◌else◌}
+use Rattle.std.specs.Prelude.{if◌then◌else◌}
 use Rattle.f64_helpers.specs.Integers.{◌==ᶻ◌}
 use Rattle.f64_helpers.proofs.Tests.{and_false}
 use Rattle.box_choices.specs.declared.Choices.{Choices}
@@ -26,7 +26,7 @@ false_either_way : (b : Bool) → (if b then false else false) ≡ false
 false_either_way true = refl
 false_either_way false = refl
 
-two_three_or_none : (a b : Bool) → let low : ℤ = if a then pos 2 else if b then pos 3 else pos 0 in (low ≡ pos 2) ⊎ ((low ≡ pos 3) ⊎ (low ≡ pos 0))
+two_three_or_none : (a b : Bool) → let low : ℤ = if a then pos 2 else (if b then pos 3 else pos 0) in (low ≡ pos 2) ⊎ ((low ≡ pos 3) ⊎ (low ≡ pos 0))
 two_three_or_none true b = inl refl
 two_three_or_none false true = inr (inl refl)
 two_three_or_none false false = inr (inr refl)

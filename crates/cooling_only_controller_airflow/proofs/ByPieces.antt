@@ -2,7 +2,7 @@
 use mathlib.Core.Path.{◌≡◌, refl}
 use mathlib.Core.Bool.{Bool, true, false, not, ◌&&◌, ◌||◌}
 use lib.Ieee.{Float}
-use Rattle.f64_helpers.specs.F64.{if◌then◌else◌}
+use Rattle.std.specs.Prelude.{if◌then◌else◌}
 use Rattle.box_choices.specs.declared.Choices.{Choices}
 use Rattle.cooling_only_controller_airflow.specs.Airflow.{damper, system_requests, alarms}
 use Rattle.cooling_only_controller_airflow.specs.AirflowPieces.{

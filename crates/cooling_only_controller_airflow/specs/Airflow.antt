@@ -7,8 +7,8 @@
 -- `delay_on_init` is false in the Rust. A quiet start runs eight true delays with true: the three of system requests, and all of alarms
 -- but the fan's arming, which starts alike in both (document 02, N4).
 -- The airflow sensor alarm has two readings: the first is the Rust's, the second that of document 02, N12.
-use Rattle.std.specs.Prelude.{Bool, false, not, ◌&&◌, ℤ, pos, Float}
-use Rattle.f64_helpers.specs.F64.{◌⊕◌, ◌⊖◌, ◌⊗◌, ◌⊘◌, decimal, zero, if◌then◌else◌}
+use Rattle.std.specs.Prelude.{Bool, false, not, ◌&&◌, ℤ, pos, Float, if◌then◌else◌}
+use Rattle.f64_helpers.specs.F64.{◌⊕◌, ◌⊖◌, ◌⊗◌, ◌⊘◌, decimal, zero}
 use Rattle.f64_helpers.specs.Integers.{◌==ᶻ◌}
 use Rattle.box_choices.specs.declared.Choices.{Choices}
 use Rattle.cdl_recurrences.specs.CdlRecurrences.{buildings_line, clamp, greater_hysteretic, hysteresis, less_hysteretic}
@@ -53,9 +53,9 @@ damper s t input choices =
     let active = if supply_warm then input.active_minimum_flow else mapped in
     let base = if input.zone_state ==ᶻ 3 then active else input.active_minimum_flow in
     let airflow_setpoint = if input.airflow_override_index ==ᶻ 1 then zero
-    else if input.airflow_override_index ==ᶻ 2 then choices.design_cooling_maximum_flow
-    else if input.airflow_override_index ==ᶻ 3 then choices.design_minimum_flow
-    else base in
+    else (if input.airflow_override_index ==ᶻ 2 then choices.design_cooling_maximum_flow
+    else (if input.airflow_override_index ==ᶻ 3 then choices.design_minimum_flow
+    else base)) in
     let normalized_setpoint = airflow_setpoint ⊘ choices.design_cooling_maximum_flow in
     let normalized_measurement = input.discharge_airflow ⊘ choices.design_cooling_maximum_flow in
     let error = normalized_setpoint ⊖ normalized_measurement in
@@ -77,8 +77,8 @@ damper s t input choices =
         airflow_setpoint = airflow_setpoint;
         damper_command =
             if input.damper_override_index ==ᶻ 1 then zero
-            else if input.damper_override_index ==ᶻ 2 then decimal 1 1
-            else pid_output;
+            else (if input.damper_override_index ==ᶻ 2 then decimal 1 1
+            else pid_output);
       };
     }
 
@@ -105,7 +105,7 @@ fresh_system_requests =
 
 -- Rust `request_level`
 abbrev pub request_level : Bool → Bool → Bool → ℤ
-request_level three two one = if three then pos 3 else if two then pos 2 else if one then pos 1 else pos 0
+request_level three two one = if three then pos 3 else (if two then pos 2 else (if one then pos 1 else pos 0))
 
 -- Rust `SystemRequestsState::output`
 unfoldable pub system_requests : SystemRequestsState → Float → SystemRequestInput → Choices → SystemRequestsStep
@@ -187,7 +187,7 @@ alarms s t input choices =
     let low_seventy_held = true_delay s.low_seventy_delay t (low_seventy && fan_armed.output) (decimal 300 1) delay_on_init in
     let level_two = low_half_held.output && setpoint_on.output && occupied in
     let level_three = low_seventy_held.output && setpoint_on.output && occupied in
-    let low_airflow = if level_two then pos 2 else if level_three then pos 3 else pos 0 in
+    let low_airflow = if level_two then pos 2 else (if level_three then pos 3 else pos 0) in
     let flow_high = greater_hysteretic input.discharge_airflow (decimal 1 10 ⊗ choices.design_cooling_maximum_flow)
     FLOW_HYSTERESIS s.flow_high in
     let fan_off = not input.supply_fan_status in

@@ -2,8 +2,8 @@
 -- It is what the stage says of some of its fields, or a formula of its own,
 -- which a law (proofs/ByPieces.antt) or a proof of the code ties to it.
 -- A reader of the stages need not open this file.
-use Rattle.std.specs.Prelude.{Bool, ◌&&◌, ℤ, pos, Float}
-use Rattle.f64_helpers.specs.F64.{◌⊗◌, decimal, zero, if◌then◌else◌}
+use Rattle.std.specs.Prelude.{Bool, ◌&&◌, ℤ, pos, Float, if◌then◌else◌}
+use Rattle.f64_helpers.specs.F64.{◌⊗◌, decimal, zero}
 use Rattle.f64_helpers.specs.Integers.{◌==ᶻ◌}
 use Rattle.cdl_recurrences.specs.CdlRecurrences.{buildings_line, greater_hysteretic}
 use Rattle.box_choices.specs.declared.Choices.{Choices}
@@ -26,16 +26,16 @@ use Rattle.cooling_only_controller_airflow.specs.declared.SensorLeakStep.{Sensor
 unfoldable pub airflow_override : ℤ → Float → Choices → Float
 airflow_override index base choices =
     if index ==ᶻ 1 then zero
-    else if index ==ᶻ 2 then choices.design_cooling_maximum_flow
-    else if index ==ᶻ 3 then choices.design_minimum_flow
-    else base
+    else (if index ==ᶻ 2 then choices.design_cooling_maximum_flow
+    else (if index ==ᶻ 3 then choices.design_minimum_flow
+    else base))
 
 -- The match on `damper_override_index`
 unfoldable pub damper_override : ℤ → Float → Float
 damper_override index pid_output =
     if index ==ᶻ 1 then zero
-    else if index ==ᶻ 2 then decimal 1 1
-    else pid_output
+    else (if index ==ᶻ 2 then decimal 1 1
+    else pid_output)
 
 -- The damper's airflow setpoint, by whether the supply is warm
 unfoldable pub airflow_setpoint : DamperInput → Bool → Choices → Float
@@ -113,7 +113,7 @@ low_airflow_level low_half_held low_seventy_held setpoint_on operation_mode =
     let occupied = operation_mode ==ᶻ 1 in
     let level_two = low_half_held && setpoint_on && occupied in
     let level_three = low_seventy_held && setpoint_on && occupied in
-    if level_two then pos 2 else if level_three then pos 3 else pos 0
+    if level_two then pos 2 else (if level_three then pos 3 else pos 0)
 
 -- `if on { level } else { 0 }`
 abbrev pub alarm_level : Bool → ℤ → ℤ

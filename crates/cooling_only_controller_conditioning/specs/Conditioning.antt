@@ -5,10 +5,10 @@
 -- value, its `.state` the block afterwards.
 -- Comparators (`hysteresis`, `greater_hysteretic`, `less_hysteretic`), `buildings_line` and `clamp` give the value itself.
 -- The Rust's constants DESIGN_MINIMUM_FLOW and DESIGN_COOLING_MAXIMUM_FLOW are fields of `choices` (document 02, N13).
-use Rattle.std.specs.Prelude.{Bool, true, false, not, ◌&&◌, ◌||◌, ℤ, pos, Float}
+use Rattle.std.specs.Prelude.{Bool, true, false, not, ◌&&◌, ◌||◌, ℤ, pos, Float, if◌then◌else◌}
 use Rattle.std.specs.Int.Signed.{le_z}
 use Rattle.std.specs.Float.Ieee.{neg}
-use Rattle.f64_helpers.specs.F64.{◌⊕◌, ◌⊖◌, ◌⊗◌, ◌⊘◌, ◌>ᶠ◌, decimal, zero, if◌then◌else◌}
+use Rattle.f64_helpers.specs.F64.{◌⊕◌, ◌⊖◌, ◌⊗◌, ◌⊘◌, ◌>ᶠ◌, decimal, zero}
 use Rattle.f64_helpers.specs.Helpers.{abs, min}
 use Rattle.f64_helpers.specs.Integers.{◌==ᶻ◌}
 use Rattle.box_choices.specs.declared.Choices.{Choices}
@@ -254,5 +254,5 @@ zone_states s heating cooling =
     let is_cooling = not is_heating && cooling_signal in
     record {
       state = record { heating_signal = heating_signal; cooling_signal = cooling_signal; heating_tiebreak = heating_tiebreak };
-      output = if is_heating then pos 1 else if is_cooling then pos 3 else pos 2;
+      output = if is_heating then pos 1 else (if is_cooling then pos 3 else pos 2);
     }

@@ -2,8 +2,8 @@
 -- It is what the stage says of some of its fields, or a formula of its own,
 -- which a law (proofs/ByPieces.antt) or a proof of the code ties to it.
 -- A reader of the stages need not open this file.
-use Rattle.std.specs.Prelude.{Bool, false, not, ◌&&◌, ℤ, pos, Float}
-use Rattle.f64_helpers.specs.F64.{◌⊖◌, ◌⊗◌, decimal, zero, if◌then◌else◌}
+use Rattle.std.specs.Prelude.{Bool, false, not, ◌&&◌, ℤ, pos, Float, if◌then◌else◌}
+use Rattle.f64_helpers.specs.F64.{◌⊖◌, ◌⊗◌, decimal, zero}
 use Rattle.f64_helpers.specs.Helpers.{abs, min}
 use Rattle.cdl_recurrences.specs.CdlRecurrences.{less_hysteretic}
 use Rattle.cooling_only_controller_timing.specs.Timing.{true_delay}
@@ -93,4 +93,4 @@ unless off flow = if off then zero else flow
 
 -- 1 heating, 3 cooling, 2 neither
 abbrev pub zone_state : Bool → Bool → ℤ
-zone_state is_heating is_cooling = if is_heating then pos 1 else if is_cooling then pos 3 else pos 2
+zone_state is_heating is_cooling = if is_heating then pos 1 else (if is_cooling then pos 3 else pos 2)

@@ -2,8 +2,8 @@
 -- A history is a list of ticks, the newest first. Times are whole seconds.
 -- That the blocks keep to the rules is proved (`sampler_law`, `unit_delay_law`) for a period p of whole seconds from 1 to 1,048,576,
 -- which is 2 ^ 20.
-use Rattle.std.specs.Prelude.{ℕ, ◌/◌, ◌%◌, ◌≤◌, Bool, true, List, [], ◌∷◌, ◌==◌, nat_lt, Float}
-use Rattle.f64_helpers.specs.F64.{zero, if◌then◌else◌}
+use Rattle.std.specs.Prelude.{ℕ, ◌/◌, ◌%◌, ◌≤◌, Bool, true, List, [], ◌∷◌, ◌==◌, nat_lt, Float, if◌then◌else◌}
+use Rattle.f64_helpers.specs.F64.{zero}
 use Rattle.f64_helpers.specs.Seconds.{seconds, IsTime}
 use Rattle.cooling_only_controller_timing.specs.declared.SamplerState.{SamplerState}
 use Rattle.cooling_only_controller_timing.specs.declared.UnitDelayState.{UnitDelayState}

@@ -1,6 +1,6 @@
 -- What the timing blocks of cooling_only_controller_timing.rs return: the next state beside the output, in that file's order.
-use Rattle.std.specs.Prelude.{Bool, true, false, not, ◌&&◌, pos, Float}
-use Rattle.f64_helpers.specs.F64.{◌⊖◌, ◌⊘◌, ◌≤ᶠ◌, decimal, zero, if◌then◌else◌}
+use Rattle.std.specs.Prelude.{Bool, true, false, not, ◌&&◌, pos, Float, if◌then◌else◌}
+use Rattle.f64_helpers.specs.F64.{◌⊖◌, ◌⊘◌, ◌≤ᶠ◌, decimal, zero}
 use Rattle.f64_helpers.specs.Helpers.{abs, max, as_f64}
 use Rattle.cdl_recurrences.specs.CdlRecurrences.{true_delay_output, sampler_output, initial_sample_time, sample_index, sample_due}
 use Rattle.cdl_recurrences.specs.declared.OptionalTime.{OptionalTime}
@@ -27,8 +27,8 @@ sampler_sample s t input period =
     let next = sample_due t s.t0 period s.last_index in
     let state =
     if not s.initialized then record { initialized = true; t0 = first_t0; last_index = sample_index t first_t0 period; held = input }
-    else if next.due then record { initialized = true; t0 = s.t0; last_index = next.index; held = input }
-    else s in
+    else (if next.due then record { initialized = true; t0 = s.t0; last_index = next.index; held = input }
+    else s) in
     record { state = state; output = output }
 
 -- ---- Rust `UnitDelayState`; CDL.Discrete.UnitDelay
@@ -49,9 +49,9 @@ unit_delay_sample s t input period =
       state = record { initialized = true; t0 = first_t0; last_index = first_index; held = s.held; staged = first_staged };
       output = s.held;
     }
-    else if not next.due then record { state = s; output = s.held }
+    else (if not next.due then record { state = s; output = s.held }
     else let output = s.staged in
-    record { state = record { initialized = true; t0 = s.t0; last_index = next.index; held = output; staged = input }; output = output }
+    record { state = record { initialized = true; t0 = s.t0; last_index = next.index; held = output; staged = input }; output = output })
 
 -- ---- Rust `TrueDelayState`; CDL.Logical.TrueDelay
 

@@ -1,8 +1,7 @@
 // The timing blocks of cooling_only_controller_timing.rs: sampler, unit delay, true delay, timer. A state goes in by value and comes back beside the output.
 #![tactic(auto)]
 
-ghost use Rattle.std.specs.Prelude.{◌≡◌};
-ghost use Rattle.f64_helpers.specs.F64.{if◌then◌else◌};
+ghost use Rattle.std.specs.Prelude.{◌≡◌, if◌then◌else◌};
 ghost use Rattle.cooling_only_controller_timing.specs.Timing as Timing;
 ghost use Rattle.cooling_only_controller_timing.specs.TimingPieces as TimingPieces;
 

@@ -9,11 +9,9 @@ use Rattle.std.specs.Float.Ieee.{round, add, sub, mul, div, lt, le}
 -- Among themselves they group as Rust's operators do: ⊗ and ⊘ before ⊕ and ⊖, each from the left, and then the comparisons.
 -- A function takes its arguments before any operator: `floor x ⊘ y` is `(floor x) ⊘ y`. Of two Bools, && comes before ||.
 -- Both bind tighter than what stands here, unlike Rust's, so a comparison beside them is in brackets.
--- Last is `if`: its `else` part reaches to the end.
 infixl 6 ◌⊕◌ ◌⊖◌
 infixl 7 ◌⊗◌ ◌⊘◌
 infix 4 ◌<ᶠ◌ ◌>ᶠ◌ ◌≤ᶠ◌ ◌≥ᶠ◌
-infixr 1 if◌then◌else◌
 -- Rust's `x + y`, `x - y`, `x * y` and `x / y`
 abbrev pub ◌⊕◌ : Float → Float → Float
 x ⊕ y = add binary64 x y
@@ -47,7 +45,3 @@ decimal n d = round binary64 false n d
 -- Rust's 0.0
 abbrev pub zero : Float
 zero = fin false 0 (pos 0)
-
--- Rust's `if b { x } else { y }`
-abbrev pub if◌then◌else◌ : {A : Type 0} → Bool → A → A → A
-if b then x else y = cond b x y

@@ -1,9 +1,9 @@
 -- Document 01's f64 helpers: floor, ceiling, absolute value, the smaller and the larger of two, and the cast to i64, for every f64.
 -- They stand for Rust's `.floor()`, `.ceil()`, `.abs()`, `.min()`, `.max()` and `as i64`.
-use Rattle.std.specs.Prelude.{ℕ, ◌+◌, ◌-◌, ◌*◌, ◌/◌, ◌%◌, Bool, true, false, ◌&&◌, ◌||◌, ℤ, pos, ◌==◌, is_nan, Float}
+use Rattle.std.specs.Prelude.{ℕ, ◌+◌, ◌-◌, ◌*◌, ◌/◌, ◌%◌, Bool, true, false, ◌&&◌, ◌||◌, ℤ, pos, ◌==◌, is_nan, Float, if◌then◌else◌}
 use Rattle.std.specs.Float.{nan, inf, fin, binary64}
 use Rattle.std.specs.Float.Ieee.{up, down, round, eq, to_signed, of_int}
-use Rattle.f64_helpers.specs.F64.{◌<ᶠ◌, ◌>ᶠ◌, zero, if◌then◌else◌}
+use Rattle.f64_helpers.specs.F64.{◌<ᶠ◌, ◌>ᶠ◌, zero}
 
 -- The whole number n with the sign s, as an f64; a 0 keeps the sign.
 -- What the definitions below hand to it is an f64 exactly: nothing is rounded.
@@ -50,17 +50,17 @@ both_zero x y = eq x zero && eq y zero
 unfoldable pub max : Float → Float → Float
 max x y =
     if is_nan x then y
-    else if x <ᶠ y then y
-    else if both_zero x y then fin (negative x && negative y) 0 (pos 0)
-    else x
+    else (if x <ᶠ y then y
+    else (if both_zero x y then fin (negative x && negative y) 0 (pos 0)
+    else x))
 
 -- Rust's `x.min(y)`. Of two zeros it is -0.0 if either is.
 unfoldable pub min : Float → Float → Float
 min x y =
     if is_nan x then y
-    else if x >ᶠ y then y
-    else if both_zero x y then fin (negative x || negative y) 0 (pos 0)
-    else x
+    else (if x >ᶠ y then y
+    else (if both_zero x y then fin (negative x || negative y) 0 (pos 0)
+    else x))
 
 -- Rust's `x as i64`: toward zero, past the range of i64 the nearer end, and 0 for a NaN
 abbrev pub as_i64 : Float → ℤ

@@ -1,8 +1,8 @@
 // The f64 functions that the published Rust takes from its standard library, for every f64: NaN, infinities, zeros of either sign, subnormals. Beside them its `x.max(0.0)` by one comparison (`max_zero`), two of its steps in one (`floor_as_i64`), the tests for a whole number and for a time, and the choice between two values.
 #![tactic(auto)]
 
-ghost use Rattle.std.specs.Prelude.{◌≡◌, T};
-ghost use Rattle.f64_helpers.specs.F64.{◌<ᶠ◌, zero, if◌then◌else◌};
+ghost use Rattle.std.specs.Prelude.{◌≡◌, T, if◌then◌else◌};
+ghost use Rattle.f64_helpers.specs.F64.{◌<ᶠ◌, zero};
 ghost use Rattle.f64_helpers.specs.Helpers as Helpers;
 ghost use Rattle.f64_helpers.specs.Seconds as Seconds;
 

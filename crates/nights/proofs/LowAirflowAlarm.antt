@@ -9,7 +9,8 @@ use lib.IntN.{ℤ, pos}
 use lib.Dec.{T}
 use lib.Ieee.{Float}
 use lib.Ieee.Fits.{and_i, and_l, and_r}
-use Rattle.f64_helpers.specs.F64.{decimal, if◌then◌else◌}
+use Rattle.f64_helpers.specs.F64.{decimal}
+use Rattle.std.specs.Prelude.{if◌then◌else◌}
 use Rattle.f64_helpers.specs.Integers.{◌==ᶻ◌}
 use Rattle.f64_helpers.specs.Seconds.{seconds}
 use Rattle.f64_helpers.proofs.Tests.{and_false}
@@ -35,7 +36,7 @@ fan_on (k ∷ h) = fan k
 
 -- the level, from the two delayed low flows, the delayed setpoint and the mode
 abbrev low_level : Bool → Bool → Bool → Bool → ℤ
-low_level half seventy setpoint_on occupied = if half && setpoint_on && occupied then pos 2 else if seventy && setpoint_on && occupied then pos 3 else pos 0
+low_level half seventy setpoint_on occupied = if half && setpoint_on && occupied then pos 2 else (if seventy && setpoint_on && occupied then pos 3 else pos 0)
 
 -- Where an old low flow has stood for long, the new has; and where the new half and the old seventy have, the old half has.
 levels : (half seventy old_half old_seventy setpoint_on occupied : Bool) → (T old_half → T half) → (T old_seventy → T seventy) → (T half → T old_seventy → T old_half)

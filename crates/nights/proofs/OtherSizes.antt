@@ -7,7 +7,8 @@ use mathlib.Core.Bool.{Bool, true, false, not, ◌&&◌}
 use lib.Dec.{T, T_not, not_T}
 use lib.Ieee.{Float, round, le, neg}
 use lib.Ieee.Fits.{and_i, and_l, and_r}
-use Rattle.f64_helpers.specs.F64.{◌⊖◌, ◌<ᶠ◌, ◌≤ᶠ◌, ◌≥ᶠ◌, decimal, zero, if◌then◌else◌}
+use Rattle.f64_helpers.specs.F64.{◌⊖◌, ◌<ᶠ◌, ◌≤ᶠ◌, ◌≥ᶠ◌, decimal, zero}
+use Rattle.std.specs.Prelude.{if◌then◌else◌}
 use Rattle.f64_helpers.proofs.Order.{lt→le, not_both, number_at_most}
 use Rattle.f64_helpers.proofs.Sums.{above_lowered}
 use Rattle.box_choices.specs.BoxChoices.{chosen, usual}

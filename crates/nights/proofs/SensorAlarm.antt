@@ -9,7 +9,8 @@ use lib.IntN.{ℤ, pos}
 use lib.Dec.{T}
 use lib.Ieee.{Float, binary64, fits}
 use lib.Ieee.Fits.{and_i, and_l, and_r}
-use Rattle.f64_helpers.specs.F64.{decimal, if◌then◌else◌}
+use Rattle.f64_helpers.specs.F64.{decimal}
+use Rattle.std.specs.Prelude.{if◌then◌else◌}
 use Rattle.f64_helpers.specs.Integers.{◌==ᶻ◌}
 use Rattle.f64_helpers.proofs.Integers.{equals_means}
 use Rattle.f64_helpers.proofs.WholeSeconds.{Reach}

@@ -1,9 +1,9 @@
 -- The box as it was before document 02's N13: its design flows are fixed at 0.5 and 1.5. These are the definitions of then, word for word
 -- but for the names, and they stand for the claim of OtherSizes.antt alone. What took neither a design flow nor the start is that of today:
 -- `time_suppression`, `control_loops`, `zone_states` and the blocks below the stages.
-use Rattle.std.specs.Prelude.{Bool, false, not, ◌&&◌, ◌||◌, List, [], ◌∷◌, ◌⊎◌, ℕ, ℤ, pos, Float}
+use Rattle.std.specs.Prelude.{Bool, false, not, ◌&&◌, ◌||◌, List, [], ◌∷◌, ◌⊎◌, ℕ, ℤ, pos, Float, if◌then◌else◌}
 use Rattle.std.specs.Int.Signed.{le_z}
-use Rattle.f64_helpers.specs.F64.{◌⊕◌, ◌⊖◌, ◌⊗◌, ◌⊘◌, decimal, zero, if◌then◌else◌}
+use Rattle.f64_helpers.specs.F64.{◌⊕◌, ◌⊖◌, ◌⊗◌, ◌⊘◌, decimal, zero}
 use Rattle.f64_helpers.specs.Integers.{◌==ᶻ◌}
 use Rattle.cdl_recurrences.specs.CdlRecurrences.{buildings_line, clamp, greater_hysteretic, hysteresis, less_hysteretic}
 use Rattle.cdl_recurrences.specs.declared.OptionalTime.{OptionalTime}
@@ -97,9 +97,9 @@ fixed_damper s t input =
     let active = if supply_warm then input.active_minimum_flow else mapped in
     let base = if input.zone_state ==ᶻ 3 then active else input.active_minimum_flow in
     let airflow_setpoint = if input.airflow_override_index ==ᶻ 1 then zero
-    else if input.airflow_override_index ==ᶻ 2 then DESIGN_COOLING_MAXIMUM_FLOW
-    else if input.airflow_override_index ==ᶻ 3 then DESIGN_MINIMUM_FLOW
-    else base in
+    else (if input.airflow_override_index ==ᶻ 2 then DESIGN_COOLING_MAXIMUM_FLOW
+    else (if input.airflow_override_index ==ᶻ 3 then DESIGN_MINIMUM_FLOW
+    else base)) in
     let normalized_setpoint = airflow_setpoint ⊘ DESIGN_COOLING_MAXIMUM_FLOW in
     let normalized_measurement = input.discharge_airflow ⊘ DESIGN_COOLING_MAXIMUM_FLOW in
     let error = normalized_setpoint ⊖ normalized_measurement in
@@ -121,8 +121,8 @@ fixed_damper s t input =
         airflow_setpoint = airflow_setpoint;
         damper_command =
             if input.damper_override_index ==ᶻ 1 then zero
-            else if input.damper_override_index ==ᶻ 2 then decimal 1 1
-            else pid_output;
+            else (if input.damper_override_index ==ᶻ 2 then decimal 1 1
+            else pid_output);
       };
     }
 
@@ -185,7 +185,7 @@ fixed_alarms s t input delay_on_init =
     let low_seventy_held = true_delay s.low_seventy_delay t (low_seventy && fan_armed.output) (decimal 300 1) delay_on_init in
     let level_two = low_half_held.output && setpoint_on.output && occupied in
     let level_three = low_seventy_held.output && setpoint_on.output && occupied in
-    let low_airflow = if level_two then pos 2 else if level_three then pos 3 else pos 0 in
+    let low_airflow = if level_two then pos 2 else (if level_three then pos 3 else pos 0) in
     let flow_high = greater_hysteretic input.discharge_airflow (decimal 1 10 ⊗ DESIGN_COOLING_MAXIMUM_FLOW)
     FLOW_HYSTERESIS s.flow_high in
     let sensor_held = true_delay s.sensor_delay t (flow_high && not input.supply_fan_status) (decimal 600 1) delay_on_init in

@@ -1,7 +1,7 @@
 -- The alarms stage as it was before document 02's N12: the airflow sensor alarm has one reading. This is the definition of then, word for
 -- word but for its name, and it stands for the claim of SecondReading.antt alone.
-use Rattle.std.specs.Prelude.{false, not, ◌&&◌, pos, Float}
-use Rattle.f64_helpers.specs.F64.{◌⊗◌, decimal, if◌then◌else◌}
+use Rattle.std.specs.Prelude.{false, not, ◌&&◌, pos, Float, if◌then◌else◌}
+use Rattle.f64_helpers.specs.F64.{◌⊗◌, decimal}
 use Rattle.f64_helpers.specs.Integers.{◌==ᶻ◌}
 use Rattle.box_choices.specs.declared.Choices.{Choices}
 use Rattle.cdl_recurrences.specs.CdlRecurrences.{greater_hysteretic, hysteresis, less_hysteretic}
@@ -26,7 +26,7 @@ one_reading_alarms s t input choices =
     let low_seventy_held = true_delay s.low_seventy_delay t (low_seventy && fan_armed.output) (decimal 300 1) delay_on_init in
     let level_two = low_half_held.output && setpoint_on.output && occupied in
     let level_three = low_seventy_held.output && setpoint_on.output && occupied in
-    let low_airflow = if level_two then pos 2 else if level_three then pos 3 else pos 0 in
+    let low_airflow = if level_two then pos 2 else (if level_three then pos 3 else pos 0) in
     let flow_high = greater_hysteretic input.discharge_airflow (decimal 1 10 ⊗ choices.design_cooling_maximum_flow)
     FLOW_HYSTERESIS s.flow_high in
     let sensor_held = true_delay s.sensor_delay t (flow_high && not input.supply_fan_status) (decimal 600 1) delay_on_init in

@@ -1,10 +1,10 @@
 -- Document 02, N4: under the quiet start the fan's arming delay starts as in a plain start. What moves by that, and what does not.
 -- The method `AirBox::tick` is proved to return `tick`, by which every night here is run; beside it stands the box as it was before N4.
 -- Both have what landed since, any design flows (N13) and either reading of the airflow sensor alarm (N12), so that they differ by N4 alone.
-use Rattle.std.specs.Prelude.{◌≡◌, ◌⊎◌, List, [], ◌∷◌, ℕ, zero, suc, ◌+◌, Bool, true, false, not, ◌&&◌, pos, Float}
+use Rattle.std.specs.Prelude.{◌≡◌, ◌⊎◌, List, [], ◌∷◌, ℕ, zero, suc, ◌+◌, Bool, true, false, not, ◌&&◌, pos, Float, if◌then◌else◌}
 use Rattle.std.proofs.Common.{inl, inr}
 use Rattle.std.proofs.Math.Option.{Option, none, some}
-use Rattle.f64_helpers.specs.F64.{◌⊗◌, decimal, zero as no_flow, if◌then◌else◌}
+use Rattle.f64_helpers.specs.F64.{◌⊗◌, decimal, zero as no_flow}
 use Rattle.f64_helpers.specs.Integers.{◌==ᶻ◌}
 use Rattle.f64_helpers.specs.Seconds.{seconds}
 use Rattle.box_choices.specs.BoxChoices.{usual}
@@ -47,7 +47,7 @@ alarms_armed arming s t input choices =
     let low_seventy_held = true_delay s.low_seventy_delay t (low_seventy && fan_armed.output) (decimal 300 1) delay_on_init in
     let level_two = low_half_held.output && setpoint_on.output && occupied in
     let level_three = low_seventy_held.output && setpoint_on.output && occupied in
-    let low_airflow = if level_two then pos 2 else if level_three then pos 3 else pos 0 in
+    let low_airflow = if level_two then pos 2 else (if level_three then pos 3 else pos 0) in
     let flow_high = greater_hysteretic input.discharge_airflow (decimal 1 10 ⊗ choices.design_cooling_maximum_flow)
     FLOW_HYSTERESIS s.flow_high in
     let fan_off = not input.supply_fan_status in

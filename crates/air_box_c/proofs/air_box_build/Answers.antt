@@ -1,7 +1,6 @@
 -- `air_box_c::air_box_build` meets its contract: the record of what was built is stored where the number is 0. Assumes nothing.
-use Rattle.std.proofs.Common.{◌≡◌, ℕ, Bool, true, false, not, T, eqb, ne_eqb, refl, sym, ap, ◌∙◌}
+use Rattle.std.proofs.Common.{◌≡◌, ℕ, Bool, true, false, not, T, eqb, ne_eqb, refl, sym, ap, ◌∙◌, if◌then◌else◌}
 use lib.Ieee.Fits.{eq→eqb}
-use Rattle.f64_helpers.specs.F64.{if◌then◌else◌}
 use Rattle.box_choices.specs.declared.Choices.{Choices}
 use Rattle.air_box.specs.AirBox.{unticked, design_flows_within, build, built_number}
 use Rattle.air_box.specs.declared.AirBox.{AirBox}

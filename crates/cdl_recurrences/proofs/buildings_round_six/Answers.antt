@@ -1,9 +1,9 @@
 -- `cdl_recurrences::buildings_round_six` meets its contract. Assumes nothing.
 use mathlib.Core.Path.{◌≡◌, sym, ◌∙◌}
-use Rattle.std.proofs.Common.{Bool, true}
+use Rattle.std.proofs.Common.{Bool, true, if◌then◌else◌}
 use lib.Ieee.{Float, binary64, fits, of_bits, neg}
 use Rattle.f64_helpers.specs.Seconds.{is_time}
-use Rattle.f64_helpers.specs.F64.{◌>ᶠ◌, zero, if◌then◌else◌}
+use Rattle.f64_helpers.specs.F64.{◌>ᶠ◌, zero}
 use Rattle.f64_helpers.proofs.Tests.{yes, no}
 use Rattle.cdl_recurrences.specs.CdlRecurrences.{buildings_round_six}
 use Rattle.cdl_recurrences.proofs.SampleGrid.{round_six_time}

@@ -1,8 +1,7 @@
 -- `cooling_only_controller_timing::SamplerState::sample` meets its contract. Assumes nothing.
-use Rattle.std.proofs.Common.{◌≡◌, Bool, true, false, ℤ, refl, to_z-of_z, w64}
+use Rattle.std.proofs.Common.{◌≡◌, Bool, true, false, ℤ, refl, to_z-of_z, w64, if◌then◌else◌}
 use lib.Ieee.{Float}
 use Rattle.cdl_recurrences.specs.CdlRecurrences.{sampler_output}
-use Rattle.f64_helpers.specs.F64.{if◌then◌else◌}
 use Rattle.cooling_only_controller_timing.specs.declared.SamplerState.{SamplerState}
 use Rattle.cooling_only_controller_timing.specs.Timing.{sampler_sample}
 use Rattle.cooling_only_controller_timing.proofs.SamplerState.sample.Goals as goal

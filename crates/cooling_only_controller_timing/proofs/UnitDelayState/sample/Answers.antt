@@ -1,7 +1,6 @@
 -- `cooling_only_controller_timing::UnitDelayState::sample` meets its contract. Assumes nothing.
-use Rattle.std.proofs.Common.{◌≡◌, Bool, true, false, not, ℤ, refl, to_z-of_z, w64}
+use Rattle.std.proofs.Common.{◌≡◌, Bool, true, false, not, ℤ, refl, to_z-of_z, w64, if◌then◌else◌}
 use lib.Ieee.{Float}
-use Rattle.f64_helpers.specs.F64.{if◌then◌else◌}
 use Rattle.cooling_only_controller_timing.specs.declared.UnitDelayState.{UnitDelayState}
 use Rattle.cooling_only_controller_timing.specs.declared.UnitDelayStep.{UnitDelayStep}
 use Rattle.cooling_only_controller_timing.specs.Timing.{unit_delay_sample}
