@@ -2,7 +2,7 @@
 -- Each operation is that of IEEE 754's binary64, rounded once, to the nearest value, ties to even: what Rust's operators on f64 do.
 -- A value is `nan`, `inf s`, or `fin s m e`: the number m * 2 ^ e, negative where s is true.
 -- There is one `nan`: no definition speaks of a NaN's bits.
-use Rattle.std.specs.Prelude.{ℕ, Bool, false, cond, pos, Float}
+use Rattle.std.specs.Prelude.{ℕ, Bool, false, pos, Float}
 use Rattle.std.specs.Float.{fin, binary64}
 use Rattle.std.specs.Float.Ieee.{round, add, sub, mul, div, lt, le}
 
