@@ -5,7 +5,7 @@
    plain or quiet, the design minimum, the cooling maximum and, where it is named, the reading of the airflow sensor alarm: first or second.
    Empty lines and lines that begin with # are left out.
    Build: gcc -O2 examples/decimals.c -o target/decimals
-   Run:   target/decimals < my_ticks.txt | target/bin/ticks | target/decimals --answers */
+   Run:   target/decimals < my_ticks.txt | crates/ticks/out/ticks | target/decimals --answers */
 #define _POSIX_C_SOURCE 200809L
 #include <inttypes.h>
 #include <math.h>

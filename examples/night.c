@@ -1,5 +1,5 @@
 /* Runs the ticks and buildings on standard input, in the line format of the program `ticks`, and answers each line as that program does.
-   Build: rt staticlib air_box_c && gcc -O2 -Iinclude examples/night.c target/staticlib/libair_box_c.a -o target/night
+   Build: tools/build_archive && gcc -O2 -Iinclude examples/night.c target/staticlib/libair_box_c.a -o target/night
    Run:   target/night < crates/ticks/stdin */
 #define _POSIX_C_SOURCE 200809L
 #include <inttypes.h>

@@ -1,5 +1,5 @@
 /* The air box for C and C++: the controller of one cooling-only variable-volume air box.
-   Link with libair_box_c.a, which `rt staticlib air_box_c` writes to target/staticlib. This header and the archive are all that a program needs.
+   Link with libair_box_c.a, which `tools/build_archive` writes to target/staticlib. This header and the archive are all that a program needs.
    docs/RULES.md has the rules in full: every threshold, dead band and delay.
 
    A box is a record of the caller's. A tick hands it a time and the readings of that time, and gets ten outputs or the number of a refusal:
@@ -76,10 +76,11 @@
    - x86-64 with the System V ABI, as on Linux and the BSDs. No other processor, and not the ABI of Windows. SSE2 is enough.
    - Doubles rounded to nearest, exceptions masked, no flushing of small numbers to zero: the state in which a program starts. A program that is linked
      with -ffast-math may start in another.
-   - No allocation, no global or static variable, no errno, no call out of the archive. Calls may run at the same time on different boxes; one box is
+   - No allocation, no global or static variable, no errno. A tick calls nothing out of the archive; air_box_fresh and
+     air_box_build call memset, which a program without a C library has to bring. Calls may run at the same time on different boxes; one box is
      ticked by one thread at a time, and a signal handler does not tick a box that it may have interrupted.
-   - No loop, no recursion and no indirect jump, so the time of a call is bounded. A tick was seen to take some 540 bytes of stack, a building
-     200; no proof bounds them.
+   - No loop, no recursion and no indirect jump, so the time of a call is bounded. A tick was seen to take some 730 bytes of stack, a building
+     100; no proof bounds them.
 
    What a caller keeps to. A pointer points to a whole record of its type, and the box, the tick and the output do not lie over each other. A flag is 0 or 1,
    and nothing else. A box is what air_box_fresh, air_box_build or a tick left, or a copy of it. air_box_build takes any room for one. The

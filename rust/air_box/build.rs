@@ -1,4 +1,4 @@
-//! Links `libair_box_c.a`: from `AIR_BOX_LIB`, or from where `rt staticlib air_box_c` writes it.
+//! Links `libair_box_c.a`: from `AIR_BOX_LIB`, or from where `tools/build_archive` writes it.
 
 use std::{env, path::PathBuf, process};
 
@@ -9,7 +9,7 @@ fn main() {
     println!("cargo:rerun-if-env-changed=AIR_BOX_LIB");
     println!("cargo:rerun-if-changed={}", archive.display());
     if !archive.is_file() {
-        eprintln!("{} is missing: run rt staticlib air_box_c in the repository, or set AIR_BOX_LIB to the archive's folder", archive.display());
+        eprintln!("{} is missing: run tools/build_archive in the repository, or set AIR_BOX_LIB to the archive's folder", archive.display());
         process::exit(1);
     }
     println!("cargo:rustc-link-search=native={}", folder.display());
