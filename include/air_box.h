@@ -1,5 +1,5 @@
 /* The air box for C and C++: the controller of one cooling-only variable-volume air box.
-   Link with libair_box_c.a, which `tools/build_archive` writes to target/staticlib. This header and the archive are all that a program needs.
+   Link with libair_box_c.a, which `tools/build_archive` writes to target/staticlib. This header, the archive and C's memset are all that a program needs.
    docs/RULES.md has the rules in full: every threshold, dead band and delay.
 
    A box is a record of the caller's. A tick hands it a time and the readings of that time, and gets ten outputs or the number of a refusal:
