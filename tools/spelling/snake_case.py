@@ -3,7 +3,7 @@
 
 usage: tools/spelling/snake_case.py [--check]
 
-A definition, a lemma, a variable and a field with dashes (`first-sample`) get underscores (`first_sample`), in specs/ and proofs/, in the clauses and ghost lines of src/, in must-fail edits, and between backticks in comments and documents.
+A definition, a lemma, a variable and a field with dashes (`first-sample`) get underscores (`first_sample`), in specs/ and proofs/, in the clauses and ghost lines of src/, in must-fail edits, and between backticks in comments and documents (docs/PORT.md speaks of the old spelling, and is left).
 What a library or the check names keeps its spelling. So do strings, words of prose and the code of src/. --check changes nothing, and fails if a file would change.
 It also lists what would fall together: two names of one file that differ only in the dash.
 """
@@ -209,7 +209,7 @@ def main(argv):
         write(p, *turn_rt(p, shared, told))
     for p in texts(".edit"):
         write(p, *turn_edit(p, told, of))
-    for p in [TOP / "README.md"] + sorted((TOP / "docs").rglob("*.md")) + sorted((TOP / "crates").glob("*/*.md")) + sorted((TOP / "tools").rglob("*.md")):
+    for p in [TOP / "README.md"] + sorted(p for p in (TOP / "docs").rglob("*.md") if p.name != "PORT.md") + sorted((TOP / "crates").glob("*/*.md")) + sorted((TOP / "tools").rglob("*.md")):
         text = p.read_text(encoding="utf-8")
         write(p, text, in_backticks(text, told, File("")))
     print(f"{len(changed)} files {'would change' if '--check' in argv else 'changed'}, {len(shared)} names")

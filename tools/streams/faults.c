@@ -1,7 +1,8 @@
 /* Loaded before the C library, makes standard input and output fail as FAULTS says, a word and a number:
    interrupted 0     every second read and write is interrupted or would block, the others move at most 1,000 bytes
    read N, write N   the first N bytes are read or written, and from there on every call fails with EIO
-   zero N            the first N bytes are written, and from there on no write takes a byte, or fails */
+   zero N            the first N bytes are written, and from there on no write takes a byte, or fails
+   close 0           what was written is lost as late as at the end: fsync fails with EIO, and so does the close of standard output */
 #define _GNU_SOURCE
 #include <dlfcn.h>
 #include <errno.h>
@@ -13,6 +14,7 @@
 
 typedef ssize_t Reads(int, void *, size_t);
 typedef ssize_t Writes(int, const void *, size_t);
+typedef int Ends(int);
 
 /* Whether FAULTS has this word, and its number. */
 static bool told(const char *word, size_t *number) {
@@ -59,4 +61,23 @@ ssize_t write(int fd, const void *at, size_t n) {
     bool zero = told("zero", &number);
     size_t most = allowed(zero ? "zero" : "write", n, done);
     return most == 0 ? (zero ? 0 : -1) : counted(real(fd, at, most), &done);
+}
+
+/* A call that ends with the file at fd, or fails with EIO where it is asked to. */
+static int ended(const char *name, int fd, bool fails) {
+    Ends *real;
+    *(void **)&real = dlsym(RTLD_NEXT, name);
+    if (!fails) return real(fd);
+    errno = EIO;
+    return -1;
+}
+
+int close(int fd) {
+    size_t number;
+    return ended("close", fd, fd == 1 && told("close", &number));
+}
+
+int fsync(int fd) {
+    size_t number;
+    return ended("fsync", fd, told("close", &number));
 }
