@@ -2,13 +2,11 @@
 -- Each definition names its Rust function and, where there is one, its block of the Modelica Buildings library (CDL).
 -- Document 01 decides `clamp`, `hysteresis`, `less_hysteretic`, `sampler_output`, `initial_sample_time`, `sample_index` and `sample_due`;
 -- docs/DIFFERENCES.md has the pairs that were found to differ.
-use Rattle.std.specs.Prelude.{Bool, true, false, not, ◌&&◌, ◌||◌, ℤ, Float, if◌then◌else◌}
+use Rattle.std.specs.Prelude.{Bool, true, false, not, ◌&&◌, ◌||◌, ℤ, Float, Option, Some, None, if◌then◌else◌}
 use Rattle.std.specs.Bool.{xor}
 use Rattle.std.specs.Int.Signed.{lt_z}
 use Rattle.f64_helpers.specs.F64.{◌⊕◌, ◌⊖◌, ◌⊗◌, ◌⊘◌, ◌<ᶠ◌, ◌>ᶠ◌, ◌≤ᶠ◌, ◌≥ᶠ◌, decimal, zero}
 use Rattle.f64_helpers.specs.Helpers.{floor, ceil, max, as_i64}
-use Rattle.cdl_recurrences.specs.declared.OptionalTime.{OptionalTime}
-use Rattle.cdl_recurrences.specs.declared.OptionalTime.TheVariants.{Absent, At}
 use Rattle.cdl_recurrences.specs.declared.DeadBandOutput.{DeadBandOutput}
 use Rattle.cdl_recurrences.specs.declared.TrueDelayOutput.{TrueDelayOutput}
 use Rattle.cdl_recurrences.specs.declared.SampleDue.{SampleDue}
@@ -48,12 +46,12 @@ dead_band_output answer previous = record { output = answer previous; decided_by
 
 -- Rust `true_delay_output`; CDL.Logical.TrueDelay. A rising input is passed on once it has been true for the delay, a falling one at once.
 -- A first input that is true is passed on at once, unless `delay_on_init` and the delay is above 0: then it counts as rising there.
-unfoldable pub true_delay_output : Float → Bool → Float → Bool → OptionalTime → Bool → Bool → Float → TrueDelayOutput
+unfoldable pub true_delay_output : Float → Bool → Float → Bool → Option Float → Bool → Bool → Float → TrueDelayOutput
 true_delay_output t false delay_time delay_on_init prev_time prev_u held timer = record { output = false; timer = zero }
-true_delay_output t true delay_time delay_on_init Absent prev_u held timer =
+true_delay_output t true delay_time delay_on_init None prev_u held timer =
     let delay = max delay_time zero in
     if delay_on_init && (delay >ᶠ zero) then record { output = false; timer = zero } else record { output = true; timer = delay }
-true_delay_output t true delay_time delay_on_init (At previous_time) prev_u held timer =
+true_delay_output t true delay_time delay_on_init (Some previous_time) prev_u held timer =
     let delay = max delay_time zero in
     let next_timer = timer ⊕ max (t ⊖ previous_time) zero in
     if held then record { output = true; timer = delay }

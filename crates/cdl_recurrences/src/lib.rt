@@ -6,13 +6,6 @@ ghost use Rattle.f64_helpers.specs.Seconds.{is_time};
 ghost use Rattle.cdl_recurrences.specs.CdlRecurrences as Cdl;
 ghost use Rattle.cdl_recurrences.specs.CdlPieces as CdlPieces;
 
-// `Option<f64>`, of a time: absent, or the time.
-#[derive(Clone, Copy)]
-pub enum OptionalTime {
-    Absent,
-    At(f64),
-}
-
 // The delay's output, and its timer in seconds.
 #[derive(Clone, Copy)]
 pub struct TrueDelayOutput {
@@ -88,7 +81,7 @@ pub fn true_delay_output(
     u: bool,
     delay_time: f64,
     delay_on_init: bool,
-    prev_time: OptionalTime,
+    prev_time: Option<f64>,
     prev_u: bool,
     held: bool,
     timer: f64,
@@ -98,7 +91,7 @@ pub fn true_delay_output(
     if u {
         let delay = f64_helpers::max_zero(delay_time);
         match prev_time {
-            OptionalTime::Absent => {
+            None => {
                 if delay_on_init & (delay > 0.0) {
                     TrueDelayOutput {
                         output: false,
@@ -111,7 +104,7 @@ pub fn true_delay_output(
                     }
                 }
             }
-            OptionalTime::At(previous_time) => {
+            Some(previous_time) => {
                 true_delay_running(t, delay, previous_time, prev_u, held, timer)
             }
         }

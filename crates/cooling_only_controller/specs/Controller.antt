@@ -12,7 +12,7 @@ use Rattle.cooling_only_controller_airflow.specs.Airflow.{damper, system_request
 use Rattle.cooling_only_controller_airflow.specs.Airflow.{fresh_damper, fresh_system_requests, fresh_alarms}
 use Rattle.cooling_only_controller.specs.declared.ControllerInput.{ControllerInput}
 use Rattle.cooling_only_controller.specs.declared.ControllerState.{ControllerState}
-use Rattle.cooling_only_controller.specs.declared.ControllerStep.{ControllerStep}
+use Rattle.cooling_only_controller_timing.specs.declared.Step.{Step}
 
 -- Rust `ControllerState::default`: every flag false, every number 0, every time absent.
 abbrev pub fresh_controller : ControllerState
@@ -31,7 +31,7 @@ fresh_controller =
 -- `choices` goes to each stage that has a choice in it: the design flows, which are constants in the Rust, the start, which is plain there, and the
 -- reading of the airflow sensor alarm, which is the first there.
 -- In `let setpoints = setpoints ..` and the like the name on the right is the stage, and the one on the left its step, as in the Rust.
-unfoldable pub controller_output : ControllerState → Float → ControllerInput → Choices → ControllerStep
+unfoldable pub controller_output : ControllerState → Float → ControllerInput → Choices → Step ControllerState ControllerOutput
 controller_output s t input choices =
     let after_suppression = time_suppression s.time_suppression t input.cooling_setpoint input.zone_temperature in
     let loops = control_loops s.control_loops t input.cooling_setpoint input.zone_temperature input.heating_setpoint in

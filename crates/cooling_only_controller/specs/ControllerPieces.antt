@@ -4,7 +4,7 @@
 use Rattle.std.specs.Prelude.{Bool, ℤ, Float}
 use Rattle.box_choices.specs.declared.Choices.{Choices}
 use Rattle.cooling_only_controller_conditioning.specs.Conditioning.{control_loops, setpoints, active_airflow, zone_states}
-use Rattle.cooling_only_controller_conditioning.specs.declared.TimeSuppressionStep.{TimeSuppressionStep}
+use Rattle.cooling_only_controller_timing.specs.declared.Step.{Step}
 use Rattle.cooling_only_controller_conditioning.specs.declared.ControlLoopOutput.{ControlLoopOutput}
 use Rattle.cooling_only_controller_conditioning.specs.declared.ControlLoopsState.{ControlLoopsState}
 use Rattle.cooling_only_controller_conditioning.specs.declared.SetpointsState.{SetpointsState}
@@ -16,8 +16,6 @@ use Rattle.cooling_only_controller_airflow.specs.Airflow.{damper}
 use Rattle.cooling_only_controller_airflow.specs.declared.DamperInput.{DamperInput}
 use Rattle.cooling_only_controller_airflow.specs.declared.DamperOutput.{DamperOutput}
 use Rattle.cooling_only_controller_airflow.specs.declared.DamperState.{DamperState}
-use Rattle.cooling_only_controller_airflow.specs.declared.SystemRequestsStep.{SystemRequestsStep}
-use Rattle.cooling_only_controller_airflow.specs.declared.AlarmsStep.{AlarmsStep}
 use Rattle.cooling_only_controller_airflow.specs.declared.SystemRequestInput.{SystemRequestInput}
 use Rattle.cooling_only_controller_airflow.specs.declared.SystemRequestOutput.{SystemRequestOutput}
 use Rattle.cooling_only_controller_airflow.specs.declared.AlarmInput.{AlarmInput}
@@ -25,7 +23,6 @@ use Rattle.cooling_only_controller_airflow.specs.declared.AlarmOutput.{AlarmOutp
 use Rattle.cooling_only_controller.specs.declared.AirflowSteps.{AirflowSteps}
 use Rattle.cooling_only_controller.specs.declared.ControllerInput.{ControllerInput}
 use Rattle.cooling_only_controller.specs.declared.ControllerOutput.{ControllerOutput}
-use Rattle.cooling_only_controller.specs.declared.ControllerStep.{ControllerStep}
 
 -- ---- what the controller hands to each stage
 
@@ -111,7 +108,7 @@ outputs damper setpoints requests alarms =
     }
 
 -- The next state and the ten outputs, from the stages' steps
-abbrev pub controller_step : TimeSuppressionStep → AirflowSteps → SystemRequestsStep → AlarmsStep → ControllerStep
+abbrev pub controller_step : (Step TimeSuppressionState Bool) → AirflowSteps → (Step SystemRequestsState SystemRequestOutput) → (Step AlarmsState AlarmOutput) → Step ControllerState ControllerOutput
 controller_step after_suppression air requests alarms =
     record {
       state = record {

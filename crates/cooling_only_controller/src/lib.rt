@@ -7,13 +7,13 @@ ghost use Rattle.cooling_only_controller.specs.ControllerPieces as ControllerPie
 
 use box_choices::Choices;
 use cooling_only_controller_airflow::{
-    AlarmInput, AlarmOutput, AlarmsState, AlarmsStep, DamperInput, DamperOutput, DamperState,
-    DamperStep, SystemRequestInput, SystemRequestOutput, SystemRequestsState, SystemRequestsStep,
+    AlarmInput, AlarmOutput, AlarmsState, DamperInput, DamperOutput, DamperState,
+    SystemRequestInput, SystemRequestOutput, SystemRequestsState, Step<SystemRequestsState, SystemRequestOutput>,
 };
 use cooling_only_controller_conditioning::{
-    ActiveAirflowOutput, ControlLoopOutput, ControlLoopsState, ControlLoopsStep, SetpointInput,
-    SetpointOutput, SetpointsState, SetpointsStep, TimeSuppressionState, TimeSuppressionStep,
-    ZoneStatesState, ZoneStatesStep,
+    ActiveAirflowOutput, ControlLoopOutput, ControlLoopsState, SetpointInput,
+    SetpointOutput, SetpointsState, TimeSuppressionState, Step<TimeSuppressionState, bool>,
+    ZoneStatesState, Step<ZoneStatesState, i64>,
 };
 
 #[repr(C)]
@@ -61,19 +61,13 @@ pub struct ControllerState {
     pub alarms: AlarmsState,
 }
 
-#[derive(Clone, Copy)]
-pub struct ControllerStep {
-    pub state: ControllerState,
-    pub output: ControllerOutput,
-}
-
 // What the stages from the control loops to the damper give.
 #[derive(Clone, Copy)]
 pub struct AirflowSteps {
-    pub loops: ControlLoopsStep,
-    pub setpoints: SetpointsStep,
-    pub zone: ZoneStatesStep,
-    pub damper: DamperStep,
+    pub loops: Step<ControlLoopsState, ControlLoopOutput>,
+    pub setpoints: Step<SetpointsState, SetpointOutput>,
+    pub zone: Step<ZoneStatesState, i64>,
+    pub damper: Step<DamperState, DamperOutput>,
 }
 
 impl ControllerState {
@@ -98,7 +92,7 @@ impl ControllerState {
         }
     }
 
-    pub fn output(self, t: f64, input: ControllerInput, choices: Choices) -> ControllerStep
+    pub fn output(self, t: f64, input: ControllerInput, choices: Choices) -> Step<ControllerState, ControllerOutput>
         ensures { result ≡ Controller.controller_output self t input choices }
     {
         let after_suppression = self
@@ -157,11 +151,11 @@ pub fn airflow_steps(
 
 // The next state and the ten outputs, put together from the stages' steps.
 fn controller_step(
-    after_suppression: TimeSuppressionStep,
+    after_suppression: Step<TimeSuppressionState, bool>,
     air: AirflowSteps,
-    requests: SystemRequestsStep,
-    alarms: AlarmsStep,
-) -> ControllerStep
+    requests: Step<SystemRequestsState, SystemRequestOutput>,
+    alarms: Step<AlarmsState, AlarmOutput>,
+) -> Step<ControllerState, ControllerOutput>
     ensures { result ≡ ControllerPieces.controller_step after_suppression air requests alarms }
 {
     let time_suppression = after_suppression.state;
@@ -180,7 +174,7 @@ fn controller_step(
     let levels = requests.output;
     let alarm = alarms.output;
     let output = outputs(flow, flows, levels, alarm);
-    ControllerStep {
+    Step {
         state: ControllerState {
             time_suppression,
             control_loops,

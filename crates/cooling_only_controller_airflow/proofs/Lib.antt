@@ -1,3 +1,4 @@
 pub mod ByPieces
 pub mod AlarmsByFan
 pub mod FlowHigh
+mod Literals

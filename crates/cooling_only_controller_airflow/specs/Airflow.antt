@@ -7,22 +7,22 @@
 -- `delay_on_init` is false in the Rust. A quiet start runs eight true delays with true: the three of system requests, and all of alarms
 -- but the fan's arming, which starts alike in both (document 02, N4).
 -- The airflow sensor alarm has two readings: the first is the Rust's, the second that of document 02, N12.
-use Rattle.std.specs.Prelude.{Bool, false, not, ◌&&◌, ℤ, pos, Float, if◌then◌else◌}
+use Rattle.std.specs.Prelude.{Some, None, Bool, false, not, ◌&&◌, ℤ, pos, Float, if◌then◌else◌}
 use Rattle.f64_helpers.specs.F64.{◌⊕◌, ◌⊖◌, ◌⊗◌, ◌⊘◌, decimal, zero}
 use Rattle.f64_helpers.specs.Integers.{◌==ᶻ◌}
 use Rattle.box_choices.specs.declared.Choices.{Choices}
 use Rattle.cdl_recurrences.specs.CdlRecurrences.{buildings_line, clamp, greater_hysteretic, hysteresis, less_hysteretic}
-use Rattle.cdl_recurrences.specs.declared.OptionalTime.TheVariants.{Absent, At}
 use Rattle.cooling_only_controller_timing.specs.Timing.{sampler_sample, true_delay, step_seconds, fresh_sampler, fresh_true_delay}
 use Rattle.cooling_only_controller_airflow.specs.declared.DamperInput.{DamperInput}
 use Rattle.cooling_only_controller_airflow.specs.declared.DamperState.{DamperState}
-use Rattle.cooling_only_controller_airflow.specs.declared.DamperStep.{DamperStep}
+use Rattle.cooling_only_controller_timing.specs.declared.Step.{Step}
 use Rattle.cooling_only_controller_airflow.specs.declared.SystemRequestInput.{SystemRequestInput}
 use Rattle.cooling_only_controller_airflow.specs.declared.SystemRequestsState.{SystemRequestsState}
-use Rattle.cooling_only_controller_airflow.specs.declared.SystemRequestsStep.{SystemRequestsStep}
 use Rattle.cooling_only_controller_airflow.specs.declared.AlarmInput.{AlarmInput}
+use Rattle.cooling_only_controller_airflow.specs.declared.DamperOutput.{DamperOutput}
+use Rattle.cooling_only_controller_airflow.specs.declared.SystemRequestOutput.{SystemRequestOutput}
+use Rattle.cooling_only_controller_airflow.specs.declared.AlarmOutput.{AlarmOutput}
 use Rattle.cooling_only_controller_airflow.specs.declared.AlarmsState.{AlarmsState}
-use Rattle.cooling_only_controller_airflow.specs.declared.AlarmsStep.{AlarmsStep}
 
 -- ---- the Rust's other constants
 
@@ -41,10 +41,10 @@ SAMPLE_PERIOD = decimal 120 1
 -- ---- Rust `DamperState`; G36.TerminalUnits.CoolingOnly.Subsequences.Dampers, with CDL.Reals.PIDWithReset as a PI
 
 abbrev pub fresh_damper : DamperState
-fresh_damper = record { supply_warm = false; integrator = zero; previous_time = Absent; previous_fan = false }
+fresh_damper = record { supply_warm = false; integrator = zero; previous_time = None; previous_fan = false }
 
 -- Rust `DamperState::output`. The command has the integrator from before this tick, which a fan that comes on resets.
-unfoldable pub damper : DamperState → Float → DamperInput → Choices → DamperStep
+unfoldable pub damper : DamperState → Float → DamperInput → Choices → Step DamperState DamperOutput
 damper s t input choices =
     let supply_warm = greater_hysteretic input.supply_air_temperature input.zone_temperature
     TEMPERATURE_HYSTERESIS s.supply_warm in
@@ -70,7 +70,7 @@ damper s t input choices =
       state = record {
         supply_warm = supply_warm;
         integrator = integrator;
-        previous_time = At t;
+        previous_time = Some t;
         previous_fan = input.supply_fan_status;
       };
       output = record {
@@ -108,7 +108,7 @@ abbrev pub request_level : Bool → Bool → Bool → ℤ
 request_level three two one = if three then pos 3 else (if two then pos 2 else (if one then pos 1 else pos 0))
 
 -- Rust `SystemRequestsState::output`
-unfoldable pub system_requests : SystemRequestsState → Float → SystemRequestInput → Choices → SystemRequestsStep
+unfoldable pub system_requests : SystemRequestsState → Float → SystemRequestInput → Choices → Step SystemRequestsState SystemRequestOutput
 system_requests s t input choices =
     let delay_on_init = choices.quiet in
     let temperature_difference = input.zone_temperature ⊖ input.cooling_setpoint in
@@ -172,7 +172,7 @@ fresh_alarms =
 
 -- Rust `AlarmsState::output`. Both low-flow memories are stored before the fan's arming enters.
 -- Where the box has the second reading of the airflow sensor alarm, its delay runs on the fan alone, and flow is asked for at this tick.
-unfoldable pub alarms : AlarmsState → Float → AlarmInput → Choices → AlarmsStep
+unfoldable pub alarms : AlarmsState → Float → AlarmInput → Choices → Step AlarmsState AlarmOutput
 alarms s t input choices =
     let delay_on_init = choices.quiet in
     let occupied = input.operation_mode ==ᶻ 1 in

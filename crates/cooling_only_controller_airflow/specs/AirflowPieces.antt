@@ -11,13 +11,14 @@ use Rattle.cooling_only_controller_airflow.specs.Airflow.{FLOW_HYSTERESIS, syste
 use Rattle.cooling_only_controller_airflow.specs.declared.DamperInput.{DamperInput}
 use Rattle.cooling_only_controller_airflow.specs.declared.SystemRequestInput.{SystemRequestInput}
 use Rattle.cooling_only_controller_airflow.specs.declared.SystemRequestsState.{SystemRequestsState}
-use Rattle.cooling_only_controller_airflow.specs.declared.SystemRequestsStep.{SystemRequestsStep}
+use Rattle.cooling_only_controller_timing.specs.declared.Step.{Step}
 use Rattle.cooling_only_controller_airflow.specs.declared.TemperatureRequestStep.{TemperatureRequestStep}
 use Rattle.cooling_only_controller_airflow.specs.declared.PressureRequestStep.{PressureRequestStep}
 use Rattle.cooling_only_controller_airflow.specs.declared.AlarmInput.{AlarmInput}
 use Rattle.cooling_only_controller_airflow.specs.declared.AlarmsState.{AlarmsState}
-use Rattle.cooling_only_controller_airflow.specs.declared.AlarmsStep.{AlarmsStep}
 use Rattle.cooling_only_controller_airflow.specs.declared.LowAirflowStep.{LowAirflowStep}
+use Rattle.cooling_only_controller_airflow.specs.declared.SystemRequestOutput.{SystemRequestOutput}
+use Rattle.cooling_only_controller_airflow.specs.declared.AlarmOutput.{AlarmOutput}
 use Rattle.cooling_only_controller_airflow.specs.declared.SensorLeakStep.{SensorLeakStep}
 
 -- ---- pieces of `damper`
@@ -83,7 +84,7 @@ pressure_request s t input choices =
     }
 
 -- The two requests put together
-abbrev pub system_requests_step : TemperatureRequestStep → PressureRequestStep → SystemRequestsStep
+abbrev pub system_requests_step : TemperatureRequestStep → PressureRequestStep → Step SystemRequestsState SystemRequestOutput
 system_requests_step temperature pressure =
     record {
       state = record {
@@ -115,10 +116,6 @@ low_airflow_level low_half_held low_seventy_held setpoint_on operation_mode =
     let level_three = low_seventy_held && setpoint_on && occupied in
     if level_two then pos 2 else (if level_three then pos 3 else pos 0)
 
--- `if on { level } else { 0 }`
-abbrev pub alarm_level : Bool → ℤ → ℤ
-alarm_level on level = if on then level else pos 0
-
 -- What `alarms` says of the low airflow alarm: its memories afterwards and its level
 abbrev pub low_airflow : AlarmsState → Float → AlarmInput → Choices → LowAirflowStep
 low_airflow s t input choices =
@@ -148,7 +145,7 @@ sensor_leak s t input choices =
     }
 
 -- The alarms put together
-abbrev pub alarms_step : LowAirflowStep → SensorLeakStep → AlarmsStep
+abbrev pub alarms_step : LowAirflowStep → SensorLeakStep → Step AlarmsState AlarmOutput
 alarms_step low sensor_leak =
     record {
       state = record {

@@ -6,8 +6,9 @@ ghost use Rattle.cooling_only_controller_airflow.specs.Airflow as Airflow;
 ghost use Rattle.cooling_only_controller_airflow.specs.AirflowPieces as AirflowPieces;
 
 use box_choices::Choices;
-use cdl_recurrences::{OptionalTime, greater_hysteretic, hysteresis, less_hysteretic};
-use cooling_only_controller_timing::{SamplerState, TrueDelayState};
+use cdl_recurrences::{greater_hysteretic, hysteresis, less_hysteretic};
+use cooling_only_controller_timing::{SamplerState, Step, TrueDelayState};
+use f64_helpers::choose;
 
 const TEMPERATURE_HYSTERESIS: f64 = 0.25;
 
@@ -37,34 +38,28 @@ pub struct DamperOutput {
     pub damper_command: f64,
 }
 
-#[derive(Clone, Copy)]
+#[derive(Clone, Copy, Default)]
 pub struct DamperState {
     pub supply_warm: bool,
     pub integrator: f64,
-    pub previous_time: OptionalTime,
+    pub previous_time: Option<f64>,
     pub previous_fan: bool,
-}
-
-#[derive(Clone, Copy)]
-pub struct DamperStep {
-    pub state: DamperState,
-    pub output: DamperOutput,
 }
 
 impl DamperState {
     pub fn fresh() -> DamperState
         ensures { result ≡ Airflow.fresh_damper }
     {
-        DamperState {
-            supply_warm: false,
-            integrator: 0.0,
-            previous_time: OptionalTime::Absent,
-            previous_fan: false,
-        }
+        DamperState::default()
     }
 
     // The PI's output is formed with the old integrator, which a starting fan resets.
-    pub fn output(self, t: f64, input: DamperInput, choices: Choices) -> DamperStep
+    pub fn output(
+        self,
+        t: f64,
+        input: DamperInput,
+        choices: Choices,
+    ) -> Step<DamperState, DamperOutput>
         ensures { result ≡ Airflow.damper self t input choices }
     {
         let supply_warm = greater_hysteretic(
@@ -82,20 +77,19 @@ impl DamperState {
         let proportional = 0.5 * error;
         let unlimited = proportional + self.integrator;
         let pid_output = cdl_recurrences::clamp(unlimited, 0.0, 1.0);
-        let previous_time = self.previous_time;
-        let dt = cooling_only_controller_timing::step_seconds(previous_time, t);
+        let dt = cooling_only_controller_timing::step_seconds(self.previous_time, t);
         let anti_windup = (unlimited - pid_output) / (0.5 * 0.9);
-        let integrator = f64_helpers::choose(
+        let integrator = choose(
             input.supply_fan_status & !self.previous_fan,
             0.01 - proportional,
             self.integrator + (0.5 / 300.0) * (error - anti_windup) * dt,
         );
         let damper_command = damper_override(input.damper_override_index, pid_output);
-        DamperStep {
+        Step {
             state: DamperState {
                 supply_warm,
                 integrator,
-                previous_time: OptionalTime::At(t),
+                previous_time: Some(t),
                 previous_fan: input.supply_fan_status,
             },
             output: DamperOutput {
@@ -117,36 +111,33 @@ fn airflow_setpoint(input: DamperInput, supply_warm: bool, choices: Choices) -> 
         input.active_cooling_maximum_flow,
         input.cooling_loop,
     );
-    let active = f64_helpers::choose(supply_warm, input.active_minimum_flow, mapped);
-    let base = f64_helpers::choose(input.zone_state == 3, active, input.active_minimum_flow);
+    let active = choose(supply_warm, input.active_minimum_flow, mapped);
+    let base = choose(input.zone_state == 3, active, input.active_minimum_flow);
     airflow_override(input.airflow_override_index, base, choices)
 }
 
 // Override 1 closes, 2 and 3 ask for the design maximum and minimum; any other index leaves the base.
+#[tactic(auto, unfolding(crate::specs::AirflowPieces::airflow_override))]
 fn airflow_override(index: i64, base: f64, choices: Choices) -> f64
     ensures { result ≡ AirflowPieces.airflow_override index base choices }
 {
-    if index == 1 {
-        0.0
-    } else if index == 2 {
-        choices.design_cooling_maximum_flow
-    } else if index == 3 {
-        choices.design_minimum_flow
-    } else {
-        base
+    match index {
+        1 => 0.0,
+        2 => choices.design_cooling_maximum_flow,
+        3 => choices.design_minimum_flow,
+        _ => base,
     }
 }
 
 // Override 1 closes, 2 opens; any other index leaves the PI's output.
+#[tactic(auto, using(crate::proofs::Literals::one_by_bits), unfolding(crate::specs::AirflowPieces::damper_override))]
 fn damper_override(index: i64, pid_output: f64) -> f64
     ensures { result ≡ AirflowPieces.damper_override index pid_output }
 {
-    if index == 1 {
-        0.0
-    } else if index == 2 {
-        1.0
-    } else {
-        pid_output
+    match index {
+        1 => 0.0,
+        2 => 1.0,
+        _ => pid_output,
     }
 }
 
@@ -167,7 +158,7 @@ pub struct SystemRequestOutput {
     pub pressure: i64,
 }
 
-#[derive(Clone, Copy)]
+#[derive(Clone, Copy, Default)]
 pub struct SystemRequestsState {
     pub hot_three: bool,
     pub hot_two: bool,
@@ -183,12 +174,6 @@ pub struct SystemRequestsState {
     pub damper_delay: TrueDelayState,
     pub starved_half: bool,
     pub starved_seventy: bool,
-}
-
-#[derive(Clone, Copy)]
-pub struct SystemRequestsStep {
-    pub state: SystemRequestsState,
-    pub output: SystemRequestOutput,
 }
 
 // The memories of the temperature request after a tick, and its level.
@@ -221,27 +206,15 @@ impl SystemRequestsState {
     pub fn fresh() -> SystemRequestsState
         ensures { result ≡ Airflow.fresh_system_requests }
     {
-        let delay = TrueDelayState::fresh();
-        let sampler = SamplerState::fresh();
-        SystemRequestsState {
-            hot_three: false,
-            hot_two: false,
-            hot_three_delay: delay,
-            hot_two_delay: delay,
-            cooling_sampler: sampler,
-            setpoint_sampler: sampler,
-            discharge_sampler: sampler,
-            damper_sampler: sampler,
-            cooling_high: false,
-            setpoint_on: false,
-            damper_high: false,
-            damper_delay: delay,
-            starved_half: false,
-            starved_seventy: false,
-        }
+        SystemRequestsState::default()
     }
 
-    pub fn output(self, t: f64, input: SystemRequestInput, choices: Choices) -> SystemRequestsStep
+    pub fn output(
+        self,
+        t: f64,
+        input: SystemRequestInput,
+        choices: Choices,
+    ) -> Step<SystemRequestsState, SystemRequestOutput>
         ensures { result ≡ Airflow.system_requests self t input choices }
     {
         let temperature = self.temperature_request(t, input, choices);
@@ -273,15 +246,12 @@ impl SystemRequestsState {
             input.after_suppression & hot_two_held.output,
             cooling_high,
         );
-        let hot_three_delay = hot_three_held.state;
-        let hot_two_delay = hot_two_held.state;
-        let cooling_sampler = sampled_cooling.state;
         TemperatureRequestStep {
             hot_three,
             hot_two,
-            hot_three_delay,
-            hot_two_delay,
-            cooling_sampler,
+            hot_three_delay: hot_three_held.state,
+            hot_two_delay: hot_two_held.state,
+            cooling_sampler: sampled_cooling.state,
             cooling_high,
             temperature,
         }
@@ -324,17 +294,13 @@ impl SystemRequestsState {
         );
         let gate = setpoint_on & damper_held.output;
         let pressure = request_level(gate & starved_half, gate & starved_seventy, damper_high);
-        let setpoint_sampler = sampled_setpoint.state;
-        let discharge_sampler = sampled_discharge.state;
-        let damper_sampler = sampled_damper.state;
-        let damper_delay = damper_held.state;
         PressureRequestStep {
-            setpoint_sampler,
-            discharge_sampler,
-            damper_sampler,
+            setpoint_sampler: sampled_setpoint.state,
+            discharge_sampler: sampled_discharge.state,
+            damper_sampler: sampled_damper.state,
             setpoint_on,
             damper_high,
-            damper_delay,
+            damper_delay: damper_held.state,
             starved_half,
             starved_seventy,
             pressure,
@@ -353,30 +319,23 @@ fn starved(share: f64, setpoint: f64, discharge: f64, previous: bool) -> bool
 fn system_requests_step(
     temperature: TemperatureRequestStep,
     pressure: PressureRequestStep,
-) -> SystemRequestsStep
+) -> Step<SystemRequestsState, SystemRequestOutput>
     ensures { result ≡ AirflowPieces.system_requests_step temperature pressure }
 {
-    let hot_three_delay = temperature.hot_three_delay;
-    let hot_two_delay = temperature.hot_two_delay;
-    let cooling_sampler = temperature.cooling_sampler;
-    let setpoint_sampler = pressure.setpoint_sampler;
-    let discharge_sampler = pressure.discharge_sampler;
-    let damper_sampler = pressure.damper_sampler;
-    let damper_delay = pressure.damper_delay;
-    SystemRequestsStep {
+    Step {
         state: SystemRequestsState {
             hot_three: temperature.hot_three,
             hot_two: temperature.hot_two,
-            hot_three_delay,
-            hot_two_delay,
-            cooling_sampler,
-            setpoint_sampler,
-            discharge_sampler,
-            damper_sampler,
+            hot_three_delay: temperature.hot_three_delay,
+            hot_two_delay: temperature.hot_two_delay,
+            cooling_sampler: temperature.cooling_sampler,
+            setpoint_sampler: pressure.setpoint_sampler,
+            discharge_sampler: pressure.discharge_sampler,
+            damper_sampler: pressure.damper_sampler,
             cooling_high: temperature.cooling_high,
             setpoint_on: pressure.setpoint_on,
             damper_high: pressure.damper_high,
-            damper_delay,
+            damper_delay: pressure.damper_delay,
             starved_half: pressure.starved_half,
             starved_seventy: pressure.starved_seventy,
         },
@@ -417,7 +376,7 @@ pub struct AlarmOutput {
     pub leaking_damper: i64,
 }
 
-#[derive(Clone, Copy)]
+#[derive(Clone, Copy, Default)]
 pub struct AlarmsState {
     pub fan_armed: TrueDelayState,
     pub setpoint_nonzero: bool,
@@ -430,12 +389,6 @@ pub struct AlarmsState {
     pub sensor_delay: TrueDelayState,
     pub damper_closed: bool,
     pub leak_delay: TrueDelayState,
-}
-
-#[derive(Clone, Copy)]
-pub struct AlarmsStep {
-    pub state: AlarmsState,
-    pub output: AlarmOutput,
 }
 
 // The memories of the low airflow alarm after a tick, and its level.
@@ -466,23 +419,15 @@ impl AlarmsState {
     pub fn fresh() -> AlarmsState
         ensures { result ≡ Airflow.fresh_alarms }
     {
-        let delay = TrueDelayState::fresh();
-        AlarmsState {
-            fan_armed: delay,
-            setpoint_nonzero: false,
-            setpoint_on: delay,
-            low_half: false,
-            low_seventy: false,
-            low_half_delay: delay,
-            low_seventy_delay: delay,
-            flow_high: false,
-            sensor_delay: delay,
-            damper_closed: false,
-            leak_delay: delay,
-        }
+        AlarmsState::default()
     }
 
-    pub fn output(self, t: f64, input: AlarmInput, choices: Choices) -> AlarmsStep
+    pub fn output(
+        self,
+        t: f64,
+        input: AlarmInput,
+        choices: Choices,
+    ) -> Step<AlarmsState, AlarmOutput>
         ensures { result ≡ Airflow.alarms self t input choices }
     {
         let low = self.low_airflow(t, input, choices);
@@ -520,18 +465,14 @@ impl AlarmsState {
             setpoint_on.output,
             input.operation_mode,
         );
-        let fan_armed_state = fan_armed.state;
-        let setpoint_on_state = setpoint_on.state;
-        let low_half_delay = low_half_held.state;
-        let low_seventy_delay = low_seventy_held.state;
         LowAirflowStep {
-            fan_armed: fan_armed_state,
+            fan_armed: fan_armed.state,
             setpoint_nonzero,
-            setpoint_on: setpoint_on_state,
+            setpoint_on: setpoint_on.state,
             low_half,
             low_seventy,
-            low_half_delay,
-            low_seventy_delay,
+            low_half_delay: low_half_held.state,
+            low_seventy_delay: low_seventy_held.state,
             low_airflow,
         }
     }
@@ -555,7 +496,7 @@ impl AlarmsState {
             .sensor_delay
             .output(t, (second | flow_high) & !fan, 600.0, choices.quiet);
         let sensor_on = sensor_held.output & (!second | flow_high);
-        let airflow_sensor = alarm_level(sensor_on & occupied, 3);
+        let airflow_sensor = choose(sensor_on & occupied, 3, 0);
         let damper_closed = less_hysteretic(
             input.damper_position,
             DAMPER_POSITION_HYSTERESIS,
@@ -565,43 +506,35 @@ impl AlarmsState {
         .output;
         let leaking = fan & damper_closed & flow_high;
         let leak_held = self.leak_delay.output(t, leaking, 600.0, choices.quiet);
-        let leaking_damper = alarm_level(leak_held.output, 4);
-        let sensor_delay = sensor_held.state;
-        let leak_delay = leak_held.state;
+        let leaking_damper = choose(leak_held.output, 4, 0);
         SensorLeakStep {
             flow_high,
-            sensor_delay,
+            sensor_delay: sensor_held.state,
             airflow_sensor,
             damper_closed,
-            leak_delay,
+            leak_delay: leak_held.state,
             leaking_damper,
         }
     }
 }
 
 // The alarms' memories and levels, put together.
-fn alarms_step(low: LowAirflowStep, sensor_leak: SensorLeakStep) -> AlarmsStep
+fn alarms_step(low: LowAirflowStep, sensor_leak: SensorLeakStep) -> Step<AlarmsState, AlarmOutput>
     ensures { result ≡ AirflowPieces.alarms_step low sensor_leak }
 {
-    let fan_armed = low.fan_armed;
-    let setpoint_on = low.setpoint_on;
-    let low_half_delay = low.low_half_delay;
-    let low_seventy_delay = low.low_seventy_delay;
-    let sensor_delay = sensor_leak.sensor_delay;
-    let leak_delay = sensor_leak.leak_delay;
-    AlarmsStep {
+    Step {
         state: AlarmsState {
-            fan_armed,
+            fan_armed: low.fan_armed,
             setpoint_nonzero: low.setpoint_nonzero,
-            setpoint_on,
+            setpoint_on: low.setpoint_on,
             low_half: low.low_half,
             low_seventy: low.low_seventy,
-            low_half_delay,
-            low_seventy_delay,
+            low_half_delay: low.low_half_delay,
+            low_seventy_delay: low.low_seventy_delay,
             flow_high: sensor_leak.flow_high,
-            sensor_delay,
+            sensor_delay: sensor_leak.sensor_delay,
             damper_closed: sensor_leak.damper_closed,
-            leak_delay,
+            leak_delay: sensor_leak.leak_delay,
         },
         output: AlarmOutput {
             low_airflow: low.low_airflow,
@@ -630,10 +563,4 @@ fn low_airflow_level(
     } else {
         0
     }
-}
-
-fn alarm_level(on: bool, level: i64) -> i64
-    ensures { result ≡ AirflowPieces.alarm_level on level }
-{
-    if on { level } else { 0 }
 }

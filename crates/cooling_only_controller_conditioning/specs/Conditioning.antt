@@ -5,7 +5,7 @@
 -- value, its `.state` the block afterwards.
 -- Comparators (`hysteresis`, `greater_hysteretic`, `less_hysteretic`), `buildings_line` and `clamp` give the value itself.
 -- The Rust's constants DESIGN_MINIMUM_FLOW and DESIGN_COOLING_MAXIMUM_FLOW are fields of `choices` (document 02, N13).
-use Rattle.std.specs.Prelude.{Bool, true, false, not, ◌&&◌, ◌||◌, ℤ, pos, Float, if◌then◌else◌}
+use Rattle.std.specs.Prelude.{Some, None, Bool, true, false, not, ◌&&◌, ◌||◌, ℤ, pos, Float, if◌then◌else◌}
 use Rattle.std.specs.Int.Signed.{le_z}
 use Rattle.std.specs.Float.Ieee.{neg}
 use Rattle.f64_helpers.specs.F64.{◌⊕◌, ◌⊖◌, ◌⊗◌, ◌⊘◌, ◌>ᶠ◌, decimal, zero}
@@ -13,23 +13,19 @@ use Rattle.f64_helpers.specs.Helpers.{abs, min}
 use Rattle.f64_helpers.specs.Integers.{◌==ᶻ◌}
 use Rattle.box_choices.specs.declared.Choices.{Choices}
 use Rattle.cdl_recurrences.specs.CdlRecurrences.{buildings_line, clamp, greater_hysteretic, hysteresis, less_hysteretic}
-use Rattle.cdl_recurrences.specs.declared.OptionalTime.TheVariants.{Absent, At}
 use Rattle.cooling_only_controller_timing.specs.Timing.{sampler_sample, unit_delay_sample, true_delay, timer_elapsed, step_seconds}
 use Rattle.cooling_only_controller_timing.specs.Timing.{fresh_sampler, fresh_unit_delay, fresh_true_delay, fresh_timer}
 use Rattle.cooling_only_controller_conditioning.specs.declared.LatchState.{LatchState}
-use Rattle.cooling_only_controller_conditioning.specs.declared.LatchStep.{LatchStep}
+use Rattle.cooling_only_controller_timing.specs.declared.Step.{Step}
 use Rattle.cooling_only_controller_conditioning.specs.declared.TimeSuppressionState.{TimeSuppressionState}
-use Rattle.cooling_only_controller_conditioning.specs.declared.TimeSuppressionStep.{TimeSuppressionStep}
 use Rattle.cooling_only_controller_conditioning.specs.declared.LoopPiState.{LoopPiState}
-use Rattle.cooling_only_controller_conditioning.specs.declared.LoopPiStep.{LoopPiStep}
 use Rattle.cooling_only_controller_conditioning.specs.declared.ControlLoopsState.{ControlLoopsState}
-use Rattle.cooling_only_controller_conditioning.specs.declared.ControlLoopsStep.{ControlLoopsStep}
 use Rattle.cooling_only_controller_conditioning.specs.declared.SetpointInput.{SetpointInput}
 use Rattle.cooling_only_controller_conditioning.specs.declared.SetpointsState.{SetpointsState}
-use Rattle.cooling_only_controller_conditioning.specs.declared.SetpointsStep.{SetpointsStep}
 use Rattle.cooling_only_controller_conditioning.specs.declared.ActiveAirflowOutput.{ActiveAirflowOutput}
+use Rattle.cooling_only_controller_conditioning.specs.declared.ControlLoopOutput.{ControlLoopOutput}
+use Rattle.cooling_only_controller_conditioning.specs.declared.SetpointOutput.{SetpointOutput}
 use Rattle.cooling_only_controller_conditioning.specs.declared.ZoneStatesState.{ZoneStatesState}
-use Rattle.cooling_only_controller_conditioning.specs.declared.ZoneStatesStep.{ZoneStatesStep}
 
 -- ---- the Rust's other constants
 
@@ -75,7 +71,7 @@ abbrev pub fresh_latch : LatchState
 fresh_latch = record { held = false; previous_input = false }
 
 -- Rust `LatchState::output`: set by a rising input, held until cleared; the clear wins. The `latch` of cdl_recurrences.rs is not taken.
-unfoldable pub latch : LatchState → Bool → Bool → LatchStep
+unfoldable pub latch : LatchState → Bool → Bool → Step LatchState Bool
 latch s input clear =
     let output = not clear && ((input && not s.previous_input) || s.held) in
     record { state = record { held = output; previous_input = input }; output = output }
@@ -99,7 +95,7 @@ fresh_time_suppression =
     }
 
 -- Rust `TimeSuppressionState::output`
-unfoldable pub time_suppression : TimeSuppressionState → Float → Float → Float → TimeSuppressionStep
+unfoldable pub time_suppression : TimeSuppressionState → Float → Float → Float → Step TimeSuppressionState Bool
 time_suppression s t setpoint_temperature zone_temperature =
     let sampled_setpoint = sampler_sample s.setpoint_sampler t setpoint_temperature SAMPLE_PERIOD in
     let prior_sample = unit_delay_sample s.previous_sample t sampled_setpoint.output SAMPLE_PERIOD in
@@ -136,10 +132,10 @@ time_suppression s t setpoint_temperature zone_temperature =
 -- ---- Rust `LoopPiState`; CDL.Reals.PIDWithReset as a PI
 
 abbrev pub fresh_loop_pi : LoopPiState
-fresh_loop_pi = record { integrator = zero; previous_time = Absent; previous_trigger = false }
+fresh_loop_pi = record { integrator = zero; previous_time = None; previous_trigger = false }
 
 -- Rust `LoopPiState::output`. The output is formed with the old integrator.
-unfoldable pub loop_pi : LoopPiState → Float → Float → Bool → LoopPiStep
+unfoldable pub loop_pi : LoopPiState → Float → Float → Bool → Step LoopPiState Float
 loop_pi s t error trigger =
     let proportional = CONTROL_GAIN ⊗ error in
     let unlimited = proportional ⊕ s.integrator in
@@ -148,7 +144,7 @@ loop_pi s t error trigger =
     let anti_windup = (unlimited ⊖ limited) ⊘ (CONTROL_GAIN ⊗ ANTI_WINDUP_NI) in
     let integrator = if trigger && not s.previous_trigger then neg proportional
     else s.integrator ⊕ (CONTROL_GAIN ⊘ CONTROL_INTEGRAL_TIME) ⊗ (error ⊖ anti_windup) ⊗ dt in
-    record { state = record { integrator = integrator; previous_time = At t; previous_trigger = trigger }; output = limited }
+    record { state = record { integrator = integrator; previous_time = Some t; previous_trigger = trigger }; output = limited }
 
 -- ---- Rust `ControlLoopsState`; G36.ThermalZones.ControlLoops
 
@@ -166,7 +162,7 @@ fresh_control_loops =
     }
 
 -- Rust `ControlLoopsState::output`
-unfoldable pub control_loops : ControlLoopsState → Float → Float → Float → Float → ControlLoopsStep
+unfoldable pub control_loops : ControlLoopsState → Float → Float → Float → Float → Step ControlLoopsState ControlLoopOutput
 control_loops s t cooling_setpoint zone_temperature heating_setpoint =
     let cooling_enable = less_hysteretic cooling_setpoint zone_temperature TEMPERATURE_HYSTERESIS s.cooling_enable in
     let heating_enable = less_hysteretic zone_temperature heating_setpoint TEMPERATURE_HYSTERESIS s.heating_enable in
@@ -199,7 +195,7 @@ abbrev pub fresh_setpoints : SetpointsState
 fresh_setpoints = record { cooling_supply = false }
 
 -- Rust `SetpointsState::output`
-unfoldable pub setpoints : SetpointsState → SetpointInput → Choices → SetpointsStep
+unfoldable pub setpoints : SetpointsState → SetpointInput → Choices → Step SetpointsState SetpointOutput
 setpoints s input choices =
     let cooling_supply = greater_hysteretic input.zone_temperature input.discharge_air_temperature
     TEMPERATURE_HYSTERESIS s.cooling_supply in
@@ -245,7 +241,7 @@ abbrev pub fresh_zone_states : ZoneStatesState
 fresh_zone_states = record { heating_signal = false; cooling_signal = false; heating_tiebreak = false }
 
 -- Rust `ZoneStatesState::output`: 1 heating, 3 cooling, 2 neither
-unfoldable pub zone_states : ZoneStatesState → Float → Float → ZoneStatesStep
+unfoldable pub zone_states : ZoneStatesState → Float → Float → Step ZoneStatesState ℤ
 zone_states s heating cooling =
     let heating_signal = hysteresis heating (decimal 1 100) (decimal 5 100) s.heating_signal in
     let cooling_signal = hysteresis cooling (decimal 1 100) (decimal 5 100) s.cooling_signal in

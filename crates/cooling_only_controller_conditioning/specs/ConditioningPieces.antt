@@ -7,16 +7,12 @@ use Rattle.f64_helpers.specs.F64.{◌⊖◌, ◌⊗◌, decimal, zero}
 use Rattle.f64_helpers.specs.Helpers.{abs, min}
 use Rattle.cdl_recurrences.specs.CdlRecurrences.{less_hysteretic}
 use Rattle.cooling_only_controller_timing.specs.Timing.{true_delay}
-use Rattle.cooling_only_controller_timing.specs.declared.TimerStep.{TimerStep}
-use Rattle.cooling_only_controller_timing.specs.declared.TrueDelayState.{TrueDelayState}
+use Rattle.cooling_only_controller_timing.specs.declared.Step.{Step}
 use Rattle.cooling_only_controller_conditioning.specs.Conditioning.{time_suppression, loop_pi, TEMPERATURE_HYSTERESIS}
 use Rattle.cooling_only_controller_conditioning.specs.Conditioning.{LOOP_THRESHOLD, LOOP_HYSTERESIS, CONTROL_DELAY}
-use Rattle.cooling_only_controller_conditioning.specs.declared.LatchStep.{LatchStep}
 use Rattle.cooling_only_controller_conditioning.specs.declared.TimeSuppressionState.{TimeSuppressionState}
 use Rattle.cooling_only_controller_conditioning.specs.declared.ChangeStep.{ChangeStep}
-use Rattle.cooling_only_controller_conditioning.specs.declared.LoopPiState.{LoopPiState}
-use Rattle.cooling_only_controller_conditioning.specs.declared.LoopStep.{LoopStep}
-use Rattle.cooling_only_controller_conditioning.specs.declared.ControlLoopsStep.{ControlLoopsStep}
+use Rattle.cooling_only_controller_conditioning.specs.declared.LoopState.{LoopState}
 
 -- ---- pieces of `time_suppression`
 
@@ -36,58 +32,21 @@ unfoldable pub suppression_window : Float → Float → Float
 suppression_window captured_setpoint captured_zone =
     min (decimal 540 1 ⊗ abs (captured_setpoint ⊖ captured_zone)) (decimal 1800 1)
 
--- What it stores, in the order of the record's fields
-abbrev pub time_suppression_state : ChangeStep → LatchStep → LatchStep → TimerStep → Bool → Float → Float → TimeSuppressionState
-time_suppression_state change suppression passed_latched elapsed passed captured_setpoint captured_zone =
-    record {
-      setpoint_sampler = change.setpoint_sampler;
-      previous_sample = change.previous_sample;
-      startup_delay = change.startup_delay;
-      change_detected = change.change_detected;
-      suppression_latch = suppression.state;
-      passed_latch = passed_latched.state;
-      timer = elapsed.state;
-      previous_active = suppression.output;
-      previous_passed = passed;
-      captured_setpoint = captured_setpoint;
-      captured_zone = captured_zone;
-    }
-
 -- ---- pieces of `control_loops`
 
 -- One of the two loops. The cooling loop has the cooling setpoint below and the zone above, the heating loop the zone below and
 -- the heating setpoint above.
-unfoldable pub control_loop : Float → Float → Float → Bool → LoopPiState → Bool → TrueDelayState → LoopStep
-control_loop t below above was_enabled pi was_near_zero delay =
-    let enable = less_hysteretic below above TEMPERATURE_HYSTERESIS was_enabled in
-    let raw = loop_pi pi t (above ⊖ below) enable in
-    let near_zero = less_hysteretic raw.output LOOP_THRESHOLD LOOP_HYSTERESIS was_near_zero in
-    let delayed = true_delay delay t near_zero CONTROL_DELAY false in
+unfoldable pub control_loop : LoopState → Float → Float → Float → Step LoopState Float
+control_loop s t below above =
+    let enable = less_hysteretic below above TEMPERATURE_HYSTERESIS s.enable in
+    let raw = loop_pi s.pi t (above ⊖ below) enable in
+    let near_zero = less_hysteretic raw.output LOOP_THRESHOLD LOOP_HYSTERESIS s.near_zero in
+    let delayed = true_delay s.delay t near_zero CONTROL_DELAY false in
     let gate = if delayed.output && not enable then zero else decimal 1 1 in
-    record { enable = enable; pi = raw.state; near_zero = near_zero; delay = delayed.state; output = raw.output ⊗ gate }
-
--- The two loops put together
-abbrev pub control_loops_step : LoopStep → LoopStep → ControlLoopsStep
-control_loops_step cooling heating =
     record {
-      state = record {
-        cooling_enable = cooling.enable;
-        heating_enable = heating.enable;
-        cooling_pi = cooling.pi;
-        heating_pi = heating.pi;
-        cooling_near_zero = cooling.near_zero;
-        heating_near_zero = heating.near_zero;
-        cooling_delay = cooling.delay;
-        heating_delay = heating.delay;
-      };
-      output = record { cooling = cooling.output; heating = heating.output };
+      state = record { enable = enable; pi = raw.state; near_zero = near_zero; delay = delayed.state };
+      output = raw.output ⊗ gate;
     }
-
--- ---- piece of `setpoints`
-
--- `if off { 0.0 } else { flow }`
-abbrev pub unless : Bool → Float → Float
-unless off flow = if off then zero else flow
 
 -- ---- piece of `zone_states`
 

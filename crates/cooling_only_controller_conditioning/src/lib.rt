@@ -8,11 +8,9 @@ ghost use Rattle.cooling_only_controller_conditioning.specs.Conditioning as Cond
 ghost use Rattle.cooling_only_controller_conditioning.specs.ConditioningPieces as ConditioningPieces;
 
 use box_choices::Choices;
-use cdl_recurrences::{
-    OptionalTime, buildings_line, greater_hysteretic, hysteresis, less_hysteretic,
-};
+use cdl_recurrences::{buildings_line, greater_hysteretic, hysteresis, less_hysteretic};
 use cooling_only_controller_timing::{
-    SamplerState, TimerState, TimerStep, TrueDelayState, UnitDelayState,
+    SamplerState, Step, TimerState, TrueDelayState, UnitDelayState,
 };
 use f64_helpers::choose;
 
@@ -42,33 +40,24 @@ const HEATING_DISTRIBUTION_EFFECTIVENESS: f64 = 0.8;
 
 // Set by a rising input, held until cleared; the clear wins.
 #[repr(C)]
-#[derive(Clone, Copy)]
+#[derive(Clone, Copy, Default)]
 pub struct LatchState {
     pub held: bool,
     pub previous_input: bool,
-}
-
-#[derive(Clone, Copy)]
-pub struct LatchStep {
-    pub state: LatchState,
-    pub output: bool,
 }
 
 impl LatchState {
     pub fn fresh() -> LatchState
         ensures { result ≡ Conditioning.fresh_latch }
     {
-        LatchState {
-            held: false,
-            previous_input: false,
-        }
+        LatchState::default()
     }
 
-    pub fn output(self, input: bool, clear: bool) -> LatchStep
+    pub fn output(self, input: bool, clear: bool) -> Step<LatchState, bool>
         ensures { result ≡ Conditioning.latch self input clear }
     {
         let output = !clear & ((input & !self.previous_input) | self.held);
-        LatchStep {
+        Step {
             state: LatchState {
                 held: output,
                 previous_input: input,
@@ -79,7 +68,7 @@ impl LatchState {
 }
 
 // Time suppression: after a change of the setpoint, requests wait for a window that grows with the distance between setpoint and zone.
-#[derive(Clone, Copy)]
+#[derive(Clone, Copy, Default)]
 pub struct TimeSuppressionState {
     pub setpoint_sampler: SamplerState,
     pub previous_sample: UnitDelayState,
@@ -92,12 +81,6 @@ pub struct TimeSuppressionState {
     pub previous_passed: bool,
     pub captured_setpoint: f64,
     pub captured_zone: f64,
-}
-
-#[derive(Clone, Copy)]
-pub struct TimeSuppressionStep {
-    pub state: TimeSuppressionState,
-    pub output: bool,
 }
 
 // Whether a setpoint change is seen: the state of the three blocks that look for one, and the answer.
@@ -113,24 +96,7 @@ impl TimeSuppressionState {
     pub fn fresh() -> TimeSuppressionState
         ensures { result ≡ Conditioning.fresh_time_suppression }
     {
-        let setpoint_sampler = SamplerState::fresh();
-        let previous_sample = UnitDelayState::fresh();
-        let startup_delay = TrueDelayState::fresh();
-        let latch = LatchState::fresh();
-        let timer = TimerState::fresh();
-        TimeSuppressionState {
-            setpoint_sampler,
-            previous_sample,
-            startup_delay,
-            change_detected: false,
-            suppression_latch: latch,
-            passed_latch: latch,
-            timer,
-            previous_active: false,
-            previous_passed: false,
-            captured_setpoint: 0.0,
-            captured_zone: 0.0,
-        }
+        TimeSuppressionState::default()
     }
 
     pub fn output(
@@ -138,14 +104,13 @@ impl TimeSuppressionState {
         t: f64,
         setpoint_temperature: f64,
         zone_temperature: f64,
-    ) -> TimeSuppressionStep
+    ) -> Step<TimeSuppressionState, bool>
         ensures { result ≡ Conditioning.time_suppression self t setpoint_temperature zone_temperature }
     {
         let change = self.change_detected(t, setpoint_temperature);
-        let change_detected = change.change_detected;
         let suppression = self
             .suppression_latch
-            .output(change_detected, self.previous_passed);
+            .output(change.change_detected, self.previous_passed);
         let active = suppression.output;
         let rising_active = active & !self.previous_active;
         let captured_setpoint = choose(rising_active, setpoint_temperature, self.captured_setpoint);
@@ -154,17 +119,20 @@ impl TimeSuppressionState {
         let elapsed = self.timer.elapsed(t, active);
         let passed = elapsed.output > suppression_window;
         let passed_latched = self.passed_latch.output(passed, rising_active);
-        let state = time_suppression_state(
-            change,
-            suppression,
-            passed_latched,
-            elapsed,
-            passed,
-            captured_setpoint,
-            captured_zone,
-        );
-        TimeSuppressionStep {
-            state,
+        Step {
+            state: TimeSuppressionState {
+                setpoint_sampler: change.setpoint_sampler,
+                previous_sample: change.previous_sample,
+                startup_delay: change.startup_delay,
+                change_detected: change.change_detected,
+                suppression_latch: suppression.state,
+                passed_latch: passed_latched.state,
+                timer: elapsed.state,
+                previous_active: active,
+                previous_passed: passed,
+                captured_setpoint,
+                captured_zone,
+            },
             output: !active | passed_latched.output,
         }
     }
@@ -189,48 +157,12 @@ impl TimeSuppressionState {
             self.change_detected,
         )
         .output;
-        let setpoint_sampler = sampled_setpoint.state;
-        let previous_sample = prior_sample.state;
-        let startup_delay = startup_complete.state;
         ChangeStep {
-            setpoint_sampler,
-            previous_sample,
-            startup_delay,
+            setpoint_sampler: sampled_setpoint.state,
+            previous_sample: prior_sample.state,
+            startup_delay: startup_complete.state,
             change_detected,
         }
-    }
-}
-
-// The memories of time suppression after a tick, put together.
-fn time_suppression_state(
-    change: ChangeStep,
-    suppression: LatchStep,
-    passed_latched: LatchStep,
-    elapsed: TimerStep,
-    passed: bool,
-    captured_setpoint: f64,
-    captured_zone: f64,
-) -> TimeSuppressionState
-    ensures { result ≡ ConditioningPieces.time_suppression_state change suppression passed_latched elapsed passed captured_setpoint captured_zone }
-{
-    let setpoint_sampler = change.setpoint_sampler;
-    let previous_sample = change.previous_sample;
-    let startup_delay = change.startup_delay;
-    let suppression_latch = suppression.state;
-    let passed_latch = passed_latched.state;
-    let timer = elapsed.state;
-    TimeSuppressionState {
-        setpoint_sampler,
-        previous_sample,
-        startup_delay,
-        change_detected: change.change_detected,
-        suppression_latch,
-        passed_latch,
-        timer,
-        previous_active: suppression.output,
-        previous_passed: passed,
-        captured_setpoint,
-        captured_zone,
     }
 }
 
@@ -245,49 +177,38 @@ fn suppression_window(captured_setpoint: f64, captured_zone: f64) -> f64
 }
 
 // PI loop with anti-windup, whose integrator is reset when the trigger rises.
-#[derive(Clone, Copy)]
+#[derive(Clone, Copy, Default)]
 pub struct LoopPiState {
     pub integrator: f64,
-    pub previous_time: OptionalTime,
+    pub previous_time: Option<f64>,
     pub previous_trigger: bool,
-}
-
-#[derive(Clone, Copy)]
-pub struct LoopPiStep {
-    pub state: LoopPiState,
-    pub output: f64,
 }
 
 impl LoopPiState {
     pub fn fresh() -> LoopPiState
         ensures { result ≡ Conditioning.fresh_loop_pi }
     {
-        LoopPiState {
-            integrator: 0.0,
-            previous_time: OptionalTime::Absent,
-            previous_trigger: false,
-        }
+        LoopPiState::default()
     }
 
     // The output is formed with the old integrator.
-    pub fn output(self, t: f64, error: f64, trigger: bool) -> LoopPiStep
+    pub fn output(self, t: f64, error: f64, trigger: bool) -> Step<LoopPiState, f64>
         ensures { result ≡ Conditioning.loop_pi self t error trigger }
     {
         let proportional = CONTROL_GAIN * error;
         let unlimited = proportional + self.integrator;
         let limited = cdl_recurrences::clamp(unlimited, 0.0, 1.0);
-        let previous_time = self.previous_time;
-        let dt = cooling_only_controller_timing::step_seconds(previous_time, t);
+        let dt = cooling_only_controller_timing::step_seconds(self.previous_time, t);
         let anti_windup = (unlimited - limited) / (CONTROL_GAIN * ANTI_WINDUP_NI);
         let integrator = choose(
             trigger & !self.previous_trigger,
             -proportional,
             self.integrator + (CONTROL_GAIN / CONTROL_INTEGRAL_TIME) * (error - anti_windup) * dt,
         );
-        LoopPiStep {
+        Step {
             state: LoopPiState {
                 integrator,
-                previous_time: OptionalTime::At(t),
+                previous_time: Some(t),
                 previous_trigger: trigger,
             },
             output: limited,
@@ -302,7 +223,7 @@ pub struct ControlLoopOutput {
     pub heating: f64,
 }
 
-#[derive(Clone, Copy)]
+#[derive(Clone, Copy, Default)]
 pub struct ControlLoopsState {
     pub cooling_enable: bool,
     pub heating_enable: bool,
@@ -314,53 +235,40 @@ pub struct ControlLoopsState {
     pub heating_delay: TrueDelayState,
 }
 
+// The memories of one of the two loops.
 #[derive(Clone, Copy)]
-pub struct ControlLoopsStep {
-    pub state: ControlLoopsState,
-    pub output: ControlLoopOutput,
-}
-
-// One of the two loops: its four memories after the tick, and its signal.
-#[derive(Clone, Copy)]
-struct LoopStep {
+struct LoopState {
     enable: bool,
     pi: LoopPiState,
     near_zero: bool,
     delay: TrueDelayState,
-    output: f64,
 }
 
-// One loop, enabled by below < above, with a dead band of 0.25. The PI runs on every tick, enabled or not, on `above` less `below`; its integrator is reset when the loop becomes enabled.
-// The signal is the PI's output, cut to 0 once that has been near zero for a while and the loop is not enabled.
-fn control_loop(
-    t: f64,
-    below: f64,
-    above: f64,
-    was_enabled: bool,
-    pi: LoopPiState,
-    was_near_zero: bool,
-    delay: TrueDelayState,
-) -> LoopStep
-    ensures { result ≡ ConditioningPieces.control_loop t below above was_enabled pi was_near_zero delay }
-{
-    let enable = less_hysteretic(below, above, TEMPERATURE_HYSTERESIS, was_enabled).output;
-    let raw = pi.output(t, above - below, enable);
-    let near_zero = less_hysteretic(
-        raw.output,
-        LOOP_THRESHOLD,
-        LOOP_HYSTERESIS,
-        was_near_zero,
-    ).output;
-    let delayed = delay.output(t, near_zero, CONTROL_DELAY, false);
-    let gate = choose(delayed.output & !enable, 0.0, 1.0);
-    let next_pi = raw.state;
-    let next_delay = delayed.state;
-    LoopStep {
-        enable,
-        pi: next_pi,
-        near_zero,
-        delay: next_delay,
-        output: raw.output * gate,
+impl LoopState {
+    // One loop, enabled by below < above, with a dead band of 0.25. The PI runs on every tick, enabled or not, on `above` less `below`; its integrator is reset when the loop becomes enabled.
+    // The signal is the PI's output, cut to 0 once that has been near zero for a while and the loop is not enabled.
+    fn output(self, t: f64, below: f64, above: f64) -> Step<LoopState, f64>
+        ensures { result ≡ ConditioningPieces.control_loop self t below above }
+    {
+        let enable = less_hysteretic(below, above, TEMPERATURE_HYSTERESIS, self.enable).output;
+        let raw = self.pi.output(t, above - below, enable);
+        let near_zero = less_hysteretic(
+            raw.output,
+            LOOP_THRESHOLD,
+            LOOP_HYSTERESIS,
+            self.near_zero,
+        ).output;
+        let delayed = self.delay.output(t, near_zero, CONTROL_DELAY, false);
+        let gate = choose(delayed.output & !enable, 0.0, 1.0);
+        Step {
+            state: LoopState {
+                enable,
+                pi: raw.state,
+                near_zero,
+                delay: delayed.state,
+            },
+            output: raw.output * gate,
+        }
     }
 }
 
@@ -368,18 +276,7 @@ impl ControlLoopsState {
     pub fn fresh() -> ControlLoopsState
         ensures { result ≡ Conditioning.fresh_control_loops }
     {
-        let pi = LoopPiState::fresh();
-        let delay = TrueDelayState::fresh();
-        ControlLoopsState {
-            cooling_enable: false,
-            heating_enable: false,
-            cooling_pi: pi,
-            heating_pi: pi,
-            cooling_near_zero: false,
-            heating_near_zero: false,
-            cooling_delay: delay,
-            heating_delay: delay,
-        }
+        ControlLoopsState::default()
     }
 
     pub fn output(
@@ -388,58 +285,39 @@ impl ControlLoopsState {
         cooling_setpoint: f64,
         zone_temperature: f64,
         heating_setpoint: f64,
-    ) -> ControlLoopsStep
+    ) -> Step<ControlLoopsState, ControlLoopOutput>
         ensures { result ≡ Conditioning.control_loops self t cooling_setpoint zone_temperature heating_setpoint }
     {
-        let old_cooling_pi = self.cooling_pi;
-        let old_cooling_delay = self.cooling_delay;
-        let cooling = control_loop(
-            t,
-            cooling_setpoint,
-            zone_temperature,
-            self.cooling_enable,
-            old_cooling_pi,
-            self.cooling_near_zero,
-            old_cooling_delay,
-        );
-        let old_heating_pi = self.heating_pi;
-        let old_heating_delay = self.heating_delay;
-        let heating = control_loop(
-            t,
-            zone_temperature,
-            heating_setpoint,
-            self.heating_enable,
-            old_heating_pi,
-            self.heating_near_zero,
-            old_heating_delay,
-        );
-        control_loops_step(cooling, heating)
-    }
-}
-
-// The two loops' memories and signals, put together.
-fn control_loops_step(cooling: LoopStep, heating: LoopStep) -> ControlLoopsStep
-    ensures { result ≡ ConditioningPieces.control_loops_step cooling heating }
-{
-    let cooling_pi = cooling.pi;
-    let heating_pi = heating.pi;
-    let cooling_delay = cooling.delay;
-    let heating_delay = heating.delay;
-    ControlLoopsStep {
-        state: ControlLoopsState {
-            cooling_enable: cooling.enable,
-            heating_enable: heating.enable,
-            cooling_pi,
-            heating_pi,
-            cooling_near_zero: cooling.near_zero,
-            heating_near_zero: heating.near_zero,
-            cooling_delay,
-            heating_delay,
-        },
-        output: ControlLoopOutput {
-            cooling: cooling.output,
-            heating: heating.output,
-        },
+        let cooling = LoopState {
+            enable: self.cooling_enable,
+            pi: self.cooling_pi,
+            near_zero: self.cooling_near_zero,
+            delay: self.cooling_delay,
+        }
+        .output(t, cooling_setpoint, zone_temperature);
+        let heating = LoopState {
+            enable: self.heating_enable,
+            pi: self.heating_pi,
+            near_zero: self.heating_near_zero,
+            delay: self.heating_delay,
+        }
+        .output(t, zone_temperature, heating_setpoint);
+        Step {
+            state: ControlLoopsState {
+                cooling_enable: cooling.state.enable,
+                heating_enable: heating.state.enable,
+                cooling_pi: cooling.state.pi,
+                heating_pi: heating.state.pi,
+                cooling_near_zero: cooling.state.near_zero,
+                heating_near_zero: heating.state.near_zero,
+                cooling_delay: cooling.state.delay,
+                heating_delay: heating.state.delay,
+            },
+            output: ControlLoopOutput {
+                cooling: cooling.output,
+                heating: heating.output,
+            },
+        }
     }
 }
 
@@ -464,27 +342,19 @@ pub struct SetpointOutput {
 
 // Whether the supply cools: the one memory of the ventilation setpoints.
 #[repr(C)]
-#[derive(Clone, Copy)]
+#[derive(Clone, Copy, Default)]
 pub struct SetpointsState {
     pub cooling_supply: bool,
-}
-
-#[derive(Clone, Copy)]
-pub struct SetpointsStep {
-    pub state: SetpointsState,
-    pub output: SetpointOutput,
 }
 
 impl SetpointsState {
     pub fn fresh() -> SetpointsState
         ensures { result ≡ Conditioning.fresh_setpoints }
     {
-        SetpointsState {
-            cooling_supply: false,
-        }
+        SetpointsState::default()
     }
 
-    pub fn output(self, input: SetpointInput, choices: Choices) -> SetpointsStep
+    pub fn output(self, input: SetpointInput, choices: Choices) -> Step<SetpointsState, SetpointOutput>
         ensures { result ≡ Conditioning.setpoints self input choices }
     {
         let cooling_supply = greater_hysteretic(
@@ -506,18 +376,18 @@ impl SetpointsState {
         );
         let population = unit_line(0.0, POPULATION_BREATHING_FLOW, corrected_co2);
         let not_occupied = !input.occupancy_status;
-        let population = unless(not_occupied, population);
-        let area = unless(not_occupied, AREA_BREATHING_FLOW);
-        let occupied_minimum = unless(not_occupied, occupied_minimum);
-        let population = unless(override_to_zero, population);
-        let area = unless(override_to_zero, area);
-        let occupied_minimum = unless(override_to_zero, occupied_minimum);
+        let population = choose(not_occupied, 0.0, population);
+        let area = choose(not_occupied, 0.0, AREA_BREATHING_FLOW);
+        let occupied_minimum = choose(not_occupied, 0.0, occupied_minimum);
+        let population = choose(override_to_zero, 0.0, population);
+        let area = choose(override_to_zero, 0.0, area);
+        let occupied_minimum = choose(override_to_zero, 0.0, occupied_minimum);
         let distribution_effectiveness = choose(
             cooling_supply,
             COOLING_DISTRIBUTION_EFFECTIVENESS,
             HEATING_DISTRIBUTION_EFFECTIVENESS,
         );
-        SetpointsStep {
+        Step {
             state: SetpointsState { cooling_supply },
             output: SetpointOutput {
                 adjusted_population_flow: population,
@@ -534,13 +404,6 @@ fn unit_line(f1: f64, f2: f64, u: f64) -> f64
     ensures { result ≡ buildings_line zero f1 (decimal 1 1) f2 u }
 {
     buildings_line(0.0, f1, 1.0, f2, u)
-}
-
-// `if off { 0.0 } else { flow }`
-fn unless(off: bool, flow: f64) -> f64
-    ensures { result ≡ ConditioningPieces.unless off flow }
-{
-    if off { 0.0 } else { flow }
 }
 
 #[derive(Clone, Copy)]
@@ -567,32 +430,22 @@ pub fn active_airflow(
 }
 
 #[repr(C)]
-#[derive(Clone, Copy)]
+#[derive(Clone, Copy, Default)]
 pub struct ZoneStatesState {
     pub heating_signal: bool,
     pub cooling_signal: bool,
     pub heating_tiebreak: bool,
 }
 
-#[derive(Clone, Copy)]
-pub struct ZoneStatesStep {
-    pub state: ZoneStatesState,
-    pub output: i64,
-}
-
 impl ZoneStatesState {
     pub fn fresh() -> ZoneStatesState
         ensures { result ≡ Conditioning.fresh_zone_states }
     {
-        ZoneStatesState {
-            heating_signal: false,
-            cooling_signal: false,
-            heating_tiebreak: false,
-        }
+        ZoneStatesState::default()
     }
 
     // 1 heating, 2 deadband, 3 cooling.
-    pub fn output(self, heating: f64, cooling: f64) -> ZoneStatesStep
+    pub fn output(self, heating: f64, cooling: f64) -> Step<ZoneStatesState, i64>
         ensures { result ≡ Conditioning.zone_states self heating cooling }
     {
         let heating_signal = hysteresis(heating, 0.01, 0.05, self.heating_signal).output;
@@ -606,7 +459,7 @@ impl ZoneStatesState {
         let is_heating = heating_signal & heating_tiebreak;
         let is_cooling = !is_heating & cooling_signal;
         let output = zone_state(is_heating, is_cooling);
-        ZoneStatesStep {
+        Step {
             state: ZoneStatesState {
                 heating_signal,
                 cooling_signal,

@@ -1,5 +1,5 @@
 -- The law of the true delay over any history of samples, for any delay and both values of `delay_on_init`: its output is true exactly if the input has been true for the delay. Beside it the law of two histories. Assumes nothing.
-use Rattle.std.proofs.Common.{◌≡◌, ℕ, ◌+◌, ◌-◌, ◌<◌, ◌≤◌, Bool, true, false, cond, not, ◌&&◌, T, leb, ◌⊎◌, ◌↔◌, List, [], ◌∷◌, ◌++◌, pos, sym, refl, ap, ◌∙◌, subst, inl, inr, ⊎_elim, zero-le, le_refl, arith, le→leb, leb→le}
+use Rattle.std.proofs.Common.{◌≡◌, ℕ, ◌+◌, ◌-◌, ◌<◌, ◌≤◌, Bool, true, false, cond, not, ◌&&◌, T, leb, ◌⊎◌, ◌↔◌, List, [], ◌∷◌, ◌++◌, pos, sym, refl, ap, Option, Some, None, ◌∙◌, subst, inl, inr, ⊎_elim, zero-le, le_refl, arith, le→leb, leb→le}
 use mathlib.Core.Logic.Iff
 use native.Mathlib.Nat.{max-zero as maxℕ-zero}
 use lib.Dec.{nleb→lt}
@@ -11,8 +11,6 @@ use Rattle.f64_helpers.proofs.WholeSeconds.{zero_whole, add_whole, sub_whole, le
 use Rattle.f64_helpers.proofs.Order.{le_trans, lt→le, eq→le, le_numbers, lt_is_not_le}
 use Rattle.cdl_recurrences.specs.CdlRecurrences.{true_delay_output}
 use Rattle.cdl_recurrences.specs.DeadBand.{Related}
-use Rattle.cdl_recurrences.specs.declared.OptionalTime.{OptionalTime}
-use Rattle.cdl_recurrences.specs.declared.OptionalTime.TheVariants.{Absent, At}
 use Rattle.cdl_recurrences.specs.declared.TrueDelayOutput.{TrueDelayOutput}
 use Rattle.cooling_only_controller_timing.specs.declared.TrueDelayState.{TrueDelayState}
 use Rattle.cooling_only_controller_timing.specs.Timing.{true_delay}
@@ -28,7 +26,7 @@ unfolding true_delay true_delay_output
 false_gives_false s t delay_time delay_on_init = refl
 
 -- after its first sample, delay_on_init is nothing to it
-pub on_init_at_the_first_alone : (s : TrueDelayState) (t : Float) (u : Bool) (delay_time : Float) (delay_on_init : Bool) (p : Float) → s.previous_time ≡ At p
+pub on_init_at_the_first_alone : (s : TrueDelayState) (t : Float) (u : Bool) (delay_time : Float) (delay_on_init : Bool) (p : Float) → s.previous_time ≡ Some p
     → true_delay s t u delay_time false ≡ true_delay s t u delay_time delay_on_init
 unfolding true_delay true_delay_output
 on_init_at_the_first_alone s t true delay_time delay_on_init p e = rw e
@@ -115,8 +113,8 @@ abbrev RightOutput : ℕ → Bool → List Sample → Float → Bool → TrueDel
 RightOutput d delay_on_init h t u o = Right d delay_on_init h t u o.output o.timer
 
 abbrev Good : ℕ → Bool → List Sample → TrueDelayState → Type 0
-Good d delay_on_init [] s = s.previous_time ≡ Absent
-Good d delay_on_init (k ∷ h) s = (s.previous_time ≡ At k.time) × (s.previous_input ≡ k.input) × Right d delay_on_init h k.time k.input s.held s.timer
+Good d delay_on_init [] s = s.previous_time ≡ None
+Good d delay_on_init (k ∷ h) s = (s.previous_time ≡ Some k.time) × (s.previous_input ≡ k.input) × Right d delay_on_init h k.time k.input s.held s.timer
 
 -- a run of true inputs that begins with the newest sample
 counts_from_zero : (d : ℕ) (delay_on_init : Bool) (h : List Sample) (t : Float) → ((now : ℕ) → TrueSince d delay_on_init now h → ⊥) → Counts d delay_on_init h t zero
@@ -137,12 +135,12 @@ module _ (delay_time : Float) (d : ℕ) (reach : Reach delay_time d) where
       (λ h. leb→le d n (subst T e h), λ h. subst T (sym e) (le→leb d n h))
 
   -- the input is false
-  off : (delay_on_init : Bool) (h : List Sample) (t : Float) (p : OptionalTime) (i b : Bool) (x : Float) → RightOutput d delay_on_init h t false (true_delay_output t false delay_time delay_on_init p i b x)
+  off : (delay_on_init : Bool) (h : List Sample) (t : Float) (p : Option Float) (i b : Bool) (x : Float) → RightOutput d delay_on_init h t false (true_delay_output t false delay_time delay_on_init p i b x)
   unfolding true_delay_output
   off delay_on_init h t p i b x = ((λ q. absurd q, λ o. o.0), λ q. absurd q)
 
   -- it is true at the very first sample
-  first : (delay_on_init : Bool) (t : Float) (i b : Bool) (x : Float) → RightOutput d delay_on_init [] t true (true_delay_output t true delay_time delay_on_init Absent i b x)
+  first : (delay_on_init : Bool) (t : Float) (i b : Bool) (x : Float) → RightOutput d delay_on_init [] t true (true_delay_output t true delay_time delay_on_init None i b x)
   unfolding true_delay_output is_nan
   first false t i b x = ((λ q. (tt, inr tt), λ o. tt), λ q r. absurd r)
   first true t i b x =
@@ -159,7 +157,7 @@ module _ (delay_time : Float) (d : ℕ) (reach : Reach delay_time d) where
 
   -- it is true at a later sample, after one at p
   running : (delay_on_init : Bool) (h : List Sample) (t p : Float) (i b : Bool) (x : Float) → IsTime t → IsTime p → seconds p ≤ seconds t → Right d delay_on_init h p i b x
-      → RightOutput d delay_on_init (sample p i ∷ h) t true (true_delay_output t true delay_time delay_on_init (At p) i b x)
+      → RightOutput d delay_on_init (sample p i ∷ h) t true (true_delay_output t true delay_time delay_on_init (Some p) i b x)
   unfolding true_delay_output
   running delay_on_init h t p i true x it ip l g =
       ((λ q. (tt, inr (true_since_later d delay_on_init delay_on_init (λ n. n) (seconds p) (seconds t) l (sample p i ∷ h) (g.0.0 tt))), λ o. tt), λ q r. absurd r)
@@ -193,14 +191,14 @@ module _ (delay_time : Float) (d : ℕ) (reach : Reach delay_time d) where
   step delay_on_init [] s t true m g = (
     refl,
     refl,
-    subst (λ (p : OptionalTime). RightOutput d delay_on_init [] t true (true_delay_output t true delay_time delay_on_init p s.previous_input s.held s.timer)) (sym g)
+    subst (λ (p : Option Float). RightOutput d delay_on_init [] t true (true_delay_output t true delay_time delay_on_init p s.previous_input s.held s.timer)) (sym g)
         (first delay_on_init t s.previous_input s.held s.timer),
   )
   step delay_on_init (k ∷ h) s t true m g = (
     refl,
     refl,
-    subst (λ (p : OptionalTime). RightOutput d delay_on_init (k ∷ h) t true (true_delay_output t true delay_time delay_on_init p s.previous_input s.held s.timer)) (sym g.0)
-        (subst (λ (i : Bool). RightOutput d delay_on_init (k ∷ h) t true (true_delay_output t true delay_time delay_on_init (At k.time) i s.held s.timer)) (sym g.1)
+    subst (λ (p : Option Float). RightOutput d delay_on_init (k ∷ h) t true (true_delay_output t true delay_time delay_on_init p s.previous_input s.held s.timer)) (sym g.0)
+        (subst (λ (i : Bool). RightOutput d delay_on_init (k ∷ h) t true (true_delay_output t true delay_time delay_on_init (Some k.time) i s.held s.timer)) (sym g.1)
         (running delay_on_init h t k.time k.input s.held s.timer m.0 m.2.0 m.1 g.2)),
   )
 

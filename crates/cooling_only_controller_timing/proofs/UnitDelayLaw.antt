@@ -11,7 +11,7 @@ use Rattle.f64_helpers.proofs.Quotients.{sign_whole, div_is, round_zero, Within,
 use Rattle.cdl_recurrences.specs.CdlRecurrences.{initial_sample_time, sample_index, sample_due}
 use Rattle.cdl_recurrences.proofs.SampleGrid.{initial_sample_time_whole, sample_index_whole, OnGrid, grid_first, grid_due, grid_sampled, grid_kept}
 use Rattle.cooling_only_controller_timing.specs.declared.UnitDelayState.{UnitDelayState}
-use Rattle.cooling_only_controller_timing.specs.declared.UnitDelayStep.{UnitDelayStep}
+use Rattle.cooling_only_controller_timing.specs.declared.Step.{Step}
 use Rattle.cooling_only_controller_timing.specs.Timing.{fresh_unit_delay, unit_delay_sample}
 use Rattle.cooling_only_controller_timing.specs.SamplerHistory.{SamplerTick, unit_delay_after, TimesInOrder, staged_by_rule, delayed_by_rule}
 
@@ -78,7 +78,7 @@ record Kept (p : ℕ) (s : UnitDelayState) (n : ℕ) (v g : Float) : Type 0 wher
   taken : s.staged ≡ g
 
 -- a tick after the first, by its test b
-abbrev step_by : Bool → UnitDelayState → Float → Float → Float → UnitDelayStep
+abbrev step_by : Bool → UnitDelayState → Float → Float → Float → Step UnitDelayState Float
 step_by true s t u period =
     record {
       state = record { initialized = true; t0 = s.t0; last_index = (sample_due t s.t0 period s.last_index).index; held = s.staged; staged = u };

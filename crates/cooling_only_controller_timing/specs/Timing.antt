@@ -1,18 +1,13 @@
 -- What the timing blocks of cooling_only_controller_timing.rs return: the next state beside the output, in that file's order.
-use Rattle.std.specs.Prelude.{Bool, true, false, not, ◌&&◌, pos, Float, if◌then◌else◌}
+use Rattle.std.specs.Prelude.{Bool, true, false, not, ◌&&◌, pos, Float, Option, Some, None, if◌then◌else◌}
 use Rattle.f64_helpers.specs.F64.{◌⊖◌, ◌⊘◌, ◌≤ᶠ◌, decimal, zero}
 use Rattle.f64_helpers.specs.Helpers.{abs, max, as_f64}
 use Rattle.cdl_recurrences.specs.CdlRecurrences.{true_delay_output, sampler_output, initial_sample_time, sample_index, sample_due}
-use Rattle.cdl_recurrences.specs.declared.OptionalTime.{OptionalTime}
-use Rattle.cdl_recurrences.specs.declared.OptionalTime.TheVariants.{Absent, At}
 use Rattle.cooling_only_controller_timing.specs.declared.SamplerState.{SamplerState}
-use Rattle.cooling_only_controller_timing.specs.declared.SamplerStep.{SamplerStep}
+use Rattle.cooling_only_controller_timing.specs.declared.Step.{Step}
 use Rattle.cooling_only_controller_timing.specs.declared.UnitDelayState.{UnitDelayState}
-use Rattle.cooling_only_controller_timing.specs.declared.UnitDelayStep.{UnitDelayStep}
 use Rattle.cooling_only_controller_timing.specs.declared.TrueDelayState.{TrueDelayState}
-use Rattle.cooling_only_controller_timing.specs.declared.TrueDelayStep.{TrueDelayStep}
 use Rattle.cooling_only_controller_timing.specs.declared.TimerState.{TimerState}
-use Rattle.cooling_only_controller_timing.specs.declared.TimerStep.{TimerStep}
 
 -- ---- Rust `SamplerState`; CDL.Discrete.Sampler
 
@@ -20,7 +15,7 @@ abbrev pub fresh_sampler : SamplerState
 fresh_sampler = record { initialized = false; t0 = zero; last_index = pos 0; held = zero }
 
 -- Rust `SamplerState::sample`. The first tick starts the grid and is sampled; a later one is sampled when due.
-unfoldable pub sampler_sample : SamplerState → Float → Float → Float → SamplerStep
+unfoldable pub sampler_sample : SamplerState → Float → Float → Float → Step SamplerState Float
 sampler_sample s t input period =
     let output = sampler_output t input period s.initialized s.t0 s.last_index s.held in
     let first_t0 = initial_sample_time t period in
@@ -37,7 +32,7 @@ abbrev pub fresh_unit_delay : UnitDelayState
 fresh_unit_delay = record { initialized = false; t0 = zero; last_index = pos 0; held = zero; staged = zero }
 
 -- Rust `UnitDelayState::sample`. The first tick starts the grid, and its input is staged only if it is within 1e-9 periods of the grid.
-unfoldable pub unit_delay_sample : UnitDelayState → Float → Float → Float → UnitDelayStep
+unfoldable pub unit_delay_sample : UnitDelayState → Float → Float → Float → Step UnitDelayState Float
 unit_delay_sample s t input period =
     let first_t0 = initial_sample_time t period in
     let first_index = sample_index t first_t0 period in
@@ -56,37 +51,37 @@ unit_delay_sample s t input period =
 -- ---- Rust `TrueDelayState`; CDL.Logical.TrueDelay
 
 abbrev pub fresh_true_delay : TrueDelayState
-fresh_true_delay = record { previous_time = Absent; previous_input = false; held = false; timer = zero }
+fresh_true_delay = record { previous_time = None; previous_input = false; held = false; timer = zero }
 
 -- Rust `TrueDelayState::output`; not the `true_delay` of cdl_recurrences.rs, another recurrence, which the controller does not call
-unfoldable pub true_delay : TrueDelayState → Float → Bool → Float → Bool → TrueDelayStep
+unfoldable pub true_delay : TrueDelayState → Float → Bool → Float → Bool → Step TrueDelayState Bool
 true_delay s t input delay_time delay_on_init =
     let next = true_delay_output t input delay_time delay_on_init s.previous_time s.previous_input s.held s.timer in
     record {
-      state = record { previous_time = At t; previous_input = input; held = next.output; timer = next.timer };
+      state = record { previous_time = Some t; previous_input = input; held = next.output; timer = next.timer };
       output = next.output;
     }
 
 -- ---- Rust `TimerState`; CDL.Logical.Timer
 
 abbrev pub fresh_timer : TimerState
-fresh_timer = record { entry_time = Absent; previous_input = false }
+fresh_timer = record { entry_time = None; previous_input = false }
 
 -- Rust's `entry_time.map_or(0.0, |entry| t - entry)`
-abbrev pub seconds_since : OptionalTime → Float → Float
-seconds_since Absent t = zero
-seconds_since (At entry) t = t ⊖ entry
+abbrev pub seconds_since : Option Float → Float → Float
+seconds_since None t = zero
+seconds_since (Some entry) t = t ⊖ entry
 
 -- Rust `TimerState::elapsed`
-unfoldable pub timer_elapsed : TimerState → Float → Bool → TimerStep
+unfoldable pub timer_elapsed : TimerState → Float → Bool → Step TimerState Float
 timer_elapsed s t input =
-    let entry_time = if input && not s.previous_input then At t else s.entry_time in
+    let entry_time = if input && not s.previous_input then Some t else s.entry_time in
     if input then record { state = record { entry_time = entry_time; previous_input = input }; output = seconds_since entry_time t }
-    else record { state = record { entry_time = Absent; previous_input = input }; output = zero }
+    else record { state = record { entry_time = None; previous_input = input }; output = zero }
 
 -- ---- the PI loops' time step
 
 -- Rust's `previous_time.map_or(0.0, |previous| (t - previous).max(0.0))`, in LoopPiState and DamperState
-abbrev pub step_seconds : OptionalTime → Float → Float
-step_seconds Absent t = zero
-step_seconds (At previous) t = max (t ⊖ previous) zero
+abbrev pub step_seconds : Option Float → Float → Float
+step_seconds None t = zero
+step_seconds (Some previous) t = max (t ⊖ previous) zero

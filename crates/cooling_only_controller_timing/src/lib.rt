@@ -5,11 +5,18 @@ ghost use Rattle.std.specs.Prelude.{◌≡◌, if◌then◌else◌};
 ghost use Rattle.cooling_only_controller_timing.specs.Timing as Timing;
 ghost use Rattle.cooling_only_controller_timing.specs.TimingPieces as TimingPieces;
 
-use cdl_recurrences::OptionalTime;
+use f64_helpers::choose;
+
+// What a block or a stage gives at a tick: its state afterwards, and its output.
+#[derive(Clone, Copy)]
+pub struct Step<S, O> {
+    pub state: S,
+    pub output: O,
+}
 
 // Periodic sampler.
 #[repr(C)]
-#[derive(Clone, Copy)]
+#[derive(Clone, Copy, Default)]
 pub struct SamplerState {
     pub initialized: bool,
     pub t0: f64,
@@ -17,57 +24,39 @@ pub struct SamplerState {
     pub held: f64,
 }
 
-#[derive(Clone, Copy)]
-pub struct SamplerStep {
-    pub state: SamplerState,
-    pub output: f64,
-}
-
 impl SamplerState {
     pub fn fresh() -> SamplerState
         ensures { result ≡ Timing.fresh_sampler }
     {
-        SamplerState {
-            initialized: false,
-            t0: 0.0,
-            last_index: 0,
-            held: 0.0,
-        }
+        SamplerState::default()
     }
 
     // A sample's being due decides both the output and what is stored, so it is asked once; the state is written out so that no padding is copied.
-    pub fn sample(self, t: f64, input: f64, period: f64) -> SamplerStep
+    pub fn sample(self, t: f64, input: f64, period: f64) -> Step<SamplerState, f64>
         ensures { result ≡ Timing.sampler_sample self t input period }
     {
         if self.initialized {
             let next = cdl_recurrences::sample_due(t, self.t0, period, self.last_index);
-            let last_index = last_sample_index(next.due, next.index, self.last_index);
-            let held = f64_helpers::choose(next.due, input, self.held);
+            let last_index = choose(next.due, next.index, self.last_index);
+            let held = choose(next.due, input, self.held);
             let state = SamplerState {
                 initialized: true,
                 t0: self.t0,
                 last_index,
                 held,
             };
-            SamplerStep {
+            Step {
                 state,
                 output: held,
             }
         } else {
             let state = sampler_first_sample(t, input, period);
-            SamplerStep {
+            Step {
                 state,
                 output: input,
             }
         }
     }
-}
-
-// The index of the last sample: this one's where it is due.
-fn last_sample_index(due: bool, index: i64, last_index: i64) -> i64
-    ensures { result ≡ (if due then index else last_index) }
-{
-    if due { index } else { last_index }
 }
 
 // The state of a sampler after its first tick.
@@ -86,7 +75,7 @@ fn sampler_first_sample(t: f64, input: f64, period: f64) -> SamplerState
 
 // Unit delay of one period: the output that it holds, and the sample staged for the next instant.
 #[repr(C)]
-#[derive(Clone, Copy)]
+#[derive(Clone, Copy, Default)]
 pub struct UnitDelayState {
     pub initialized: bool,
     pub t0: f64,
@@ -95,33 +84,21 @@ pub struct UnitDelayState {
     pub staged: f64,
 }
 
-#[derive(Clone, Copy)]
-pub struct UnitDelayStep {
-    pub state: UnitDelayState,
-    pub output: f64,
-}
-
 impl UnitDelayState {
     pub fn fresh() -> UnitDelayState
         ensures { result ≡ Timing.fresh_unit_delay }
     {
-        UnitDelayState {
-            initialized: false,
-            t0: 0.0,
-            last_index: 0,
-            held: 0.0,
-            staged: 0.0,
-        }
+        UnitDelayState::default()
     }
 
-    pub fn sample(self, t: f64, input: f64, period: f64) -> UnitDelayStep
+    pub fn sample(self, t: f64, input: f64, period: f64) -> Step<UnitDelayState, f64>
         ensures { result ≡ Timing.unit_delay_sample self t input period }
     {
         if self.initialized {
             let next = cdl_recurrences::sample_due(t, self.t0, period, self.last_index);
-            let last_index = last_sample_index(next.due, next.index, self.last_index);
-            let held = f64_helpers::choose(next.due, self.staged, self.held);
-            let staged = f64_helpers::choose(next.due, input, self.staged);
+            let last_index = choose(next.due, next.index, self.last_index);
+            let held = choose(next.due, self.staged, self.held);
+            let staged = choose(next.due, input, self.staged);
             let state = UnitDelayState {
                 initialized: true,
                 t0: self.t0,
@@ -129,13 +106,13 @@ impl UnitDelayState {
                 held,
                 staged,
             };
-            UnitDelayStep {
+            Step {
                 state,
                 output: held,
             }
         } else {
             let state = self.first_sample(t, input, period);
-            UnitDelayStep {
+            Step {
                 state,
                 output: self.held,
             }
@@ -162,33 +139,22 @@ impl UnitDelayState {
 }
 
 // True delay.
-#[derive(Clone, Copy)]
+#[derive(Clone, Copy, Default)]
 pub struct TrueDelayState {
-    pub previous_time: OptionalTime,
+    pub previous_time: Option<f64>,
     pub previous_input: bool,
     pub held: bool,
     pub timer: f64,
-}
-
-#[derive(Clone, Copy)]
-pub struct TrueDelayStep {
-    pub state: TrueDelayState,
-    pub output: bool,
 }
 
 impl TrueDelayState {
     pub fn fresh() -> TrueDelayState
         ensures { result ≡ Timing.fresh_true_delay }
     {
-        TrueDelayState {
-            previous_time: OptionalTime::Absent,
-            previous_input: false,
-            held: false,
-            timer: 0.0,
-        }
+        TrueDelayState::default()
     }
 
-    pub fn output(self, t: f64, input: bool, delay_time: f64, delay_on_init: bool) -> TrueDelayStep
+    pub fn output(self, t: f64, input: bool, delay_time: f64, delay_on_init: bool) -> Step<TrueDelayState, bool>
         ensures { result ≡ Timing.true_delay self t input delay_time delay_on_init }
     {
         let previous_time = self.previous_time;
@@ -203,12 +169,12 @@ impl TrueDelayState {
             self.timer,
         );
         let state = TrueDelayState {
-            previous_time: OptionalTime::At(t),
+            previous_time: Some(t),
             previous_input: input,
             held: next.output,
             timer: next.timer,
         };
-        TrueDelayStep {
+        Step {
             state,
             output: next.output,
         }
@@ -216,39 +182,30 @@ impl TrueDelayState {
 }
 
 // Seconds since the input last rose.
-#[derive(Clone, Copy)]
+#[derive(Clone, Copy, Default)]
 pub struct TimerState {
-    pub entry_time: OptionalTime,
+    pub entry_time: Option<f64>,
     pub previous_input: bool,
-}
-
-#[derive(Clone, Copy)]
-pub struct TimerStep {
-    pub state: TimerState,
-    pub output: f64,
 }
 
 impl TimerState {
     pub fn fresh() -> TimerState
         ensures { result ≡ Timing.fresh_timer }
     {
-        TimerState {
-            entry_time: OptionalTime::Absent,
-            previous_input: false,
-        }
+        TimerState::default()
     }
 
-    pub fn elapsed(self, t: f64, input: bool) -> TimerStep
+    pub fn elapsed(self, t: f64, input: bool) -> Step<TimerState, f64>
         ensures { result ≡ Timing.timer_elapsed self t input }
     {
         if input {
             let entry_time = if self.previous_input {
                 self.entry_time
             } else {
-                OptionalTime::At(t)
+                Some(t)
             };
             let output = seconds_since(entry_time, t);
-            TimerStep {
+            Step {
                 state: TimerState {
                     entry_time,
                     previous_input: true,
@@ -256,9 +213,9 @@ impl TimerState {
                 output,
             }
         } else {
-            TimerStep {
+            Step {
                 state: TimerState {
-                    entry_time: OptionalTime::Absent,
+                    entry_time: None,
                     previous_input: false,
                 },
                 output: 0.0,
@@ -267,22 +224,16 @@ impl TimerState {
     }
 }
 
-// `entry_time.map_or(0.0, |entry| t - entry)`
-fn seconds_since(entry_time: OptionalTime, t: f64) -> f64
+// How long before t that was; 0.0 where it never was.
+fn seconds_since(entry_time: Option<f64>, t: f64) -> f64
     ensures { result ≡ Timing.seconds_since entry_time t }
 {
-    match entry_time {
-        OptionalTime::Absent => 0.0,
-        OptionalTime::At(entry) => t - entry,
-    }
+    entry_time.map_or(0.0, |entry| t - entry)
 }
 
-// `previous_time.map_or(0.0, |previous| (t - previous).max(0.0))`: the seconds over which a PI loop integrates.
-pub fn step_seconds(previous_time: OptionalTime, t: f64) -> f64
+// The seconds over which a PI loop integrates: none at its first tick.
+pub fn step_seconds(previous_time: Option<f64>, t: f64) -> f64
     ensures { result ≡ Timing.step_seconds previous_time t }
 {
-    match previous_time {
-        OptionalTime::Absent => 0.0,
-        OptionalTime::At(previous) => f64_helpers::max_zero(t - previous),
-    }
+    previous_time.map_or(0.0, |previous| f64_helpers::max_zero(t - previous))
 }

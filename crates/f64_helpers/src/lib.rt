@@ -147,7 +147,7 @@ pub fn is_time(t: f64) -> bool
 }
 
 // `if b { x } else { y }`, where a stage picks between two values.
-pub fn choose(b: bool, x: f64, y: f64) -> f64
+pub fn choose<V: Copy>(b: bool, x: V, y: V) -> V
     ensures { result ≡ (if b then x else y) }
 {
     if b { x } else { y }

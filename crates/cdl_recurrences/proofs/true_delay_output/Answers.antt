@@ -7,17 +7,17 @@ use Rattle.cdl_recurrences.proofs.true_delay_output.Goals as goal
 pub returns-then-delay_on_init-delay : goal.returns-then-delay_on_init-delay
 unfolding true_delay_output of_bits
 returns-then-delay_on_init-delay c =
-    rw (c.if-u.true, c.in-Absent.is, ← c.max_zero-delay.ensures, c.if-delay_on_init-delay.true)
+    rw (c.if-u.true, c.in-None.is, ← c.max_zero-delay.ensures, c.if-delay_on_init-delay.true)
 
 pub returns-else-delay_on_init-delay : goal.returns-else-delay_on_init-delay
 unfolding true_delay_output of_bits
 returns-else-delay_on_init-delay c =
-    rw (c.if-u.true, c.in-Absent.is, ← c.max_zero-delay.ensures, c.if-delay_on_init-delay.false)
+    rw (c.if-u.true, c.in-None.is, ← c.max_zero-delay.ensures, c.if-delay_on_init-delay.false)
 
-pub returns-in-At : goal.returns-in-At
+pub returns-in-Some : goal.returns-in-Some
 unfolding true_delay_output true_delay_running of_bits
-returns-in-At c =
-    rw (c.true_delay_running.ensures, c.if-u.true, c.in-At.is, c.max_zero-delay.ensures)
+returns-in-Some c =
+    rw (c.true_delay_running.ensures, c.if-u.true, c.in-Some.is, c.max_zero-delay.ensures)
 
 pub returns-else-u : goal.returns-else-u
 unfolding true_delay_output of_bits

@@ -6,17 +6,14 @@ use mir.Syntax.{w64}
 use mir.Facts.{to_z-of_z}
 use Rattle.cooling_only_controller_conditioning.specs.Conditioning.{control_loops, setpoints, active_airflow, zone_states}
 use Rattle.cooling_only_controller_conditioning.specs.declared.ControlLoopsState.{ControlLoopsState}
-use Rattle.cooling_only_controller_conditioning.specs.declared.ControlLoopsStep.{ControlLoopsStep}
+use Rattle.cooling_only_controller_timing.specs.declared.Step.{Step}
 use Rattle.cooling_only_controller_conditioning.specs.declared.SetpointInput.{SetpointInput}
 use Rattle.cooling_only_controller_conditioning.specs.declared.SetpointsState.{SetpointsState}
-use Rattle.cooling_only_controller_conditioning.specs.declared.SetpointsStep.{SetpointsStep}
 use Rattle.cooling_only_controller_conditioning.specs.declared.ActiveAirflowOutput.{ActiveAirflowOutput}
 use Rattle.cooling_only_controller_conditioning.specs.declared.ZoneStatesState.{ZoneStatesState}
-use Rattle.cooling_only_controller_conditioning.specs.declared.ZoneStatesStep.{ZoneStatesStep}
 use Rattle.cooling_only_controller_airflow.specs.Airflow.{damper}
 use Rattle.cooling_only_controller_airflow.specs.declared.DamperInput.{DamperInput}
 use Rattle.cooling_only_controller_airflow.specs.declared.DamperState.{DamperState}
-use Rattle.cooling_only_controller_airflow.specs.declared.DamperStep.{DamperStep}
 use Rattle.cooling_only_controller.specs.declared.AirflowSteps.{AirflowSteps}
 use Rattle.cooling_only_controller.specs.declared.ControllerInput.{ControllerInput}
 use Rattle.cooling_only_controller.specs.ControllerPieces.{airflow_steps, setpoint_input, damper_input}
@@ -24,13 +21,13 @@ use Rattle.cooling_only_controller.proofs.airflow_steps.Goals as goal
 
 -- the steps, each equal to its definition on what the stages before it gave
 steps_from : (t : Float) (input : ControllerInput) (choices : Choices) (l : ControlLoopsState) (s : SetpointsState) (z : ZoneStatesState) (d : DamperState)
-    (loops : ControlLoopsStep)
+    (loops : (Step ControlLoopsState ControlLoopOutput))
     (wanted_setpoints : SetpointInput)
-    (flows : SetpointsStep)
+    (flows : (Step SetpointsState SetpointOutput))
     (active : ActiveAirflowOutput)
-    (zone_step : ZoneStatesStep)
+    (zone_step : (Step ZoneStatesState ℤ))
     (wanted_flow : DamperInput)
-    (air : DamperStep)
+    (air : (Step DamperState DamperOutput))
     → loops ≡ control_loops l t input.cooling_setpoint input.zone_temperature input.heating_setpoint
     → wanted_setpoints ≡ setpoint_input input
     → flows ≡ setpoints s wanted_setpoints choices

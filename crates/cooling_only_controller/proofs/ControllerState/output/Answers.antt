@@ -3,12 +3,10 @@ use mathlib.Core.Path.{◌≡◌, ◌∙◌}
 use lib.Ieee.{Float}
 use Rattle.box_choices.specs.declared.Choices.{Choices}
 use Rattle.cooling_only_controller_conditioning.specs.Conditioning.{time_suppression}
-use Rattle.cooling_only_controller_conditioning.specs.declared.TimeSuppressionStep.{TimeSuppressionStep}
+use Rattle.cooling_only_controller_timing.specs.declared.Step.{Step}
 use Rattle.cooling_only_controller_airflow.specs.Airflow.{system_requests, alarms}
 use Rattle.cooling_only_controller_airflow.specs.declared.SystemRequestInput.{SystemRequestInput}
-use Rattle.cooling_only_controller_airflow.specs.declared.SystemRequestsStep.{SystemRequestsStep}
 use Rattle.cooling_only_controller_airflow.specs.declared.AlarmInput.{AlarmInput}
-use Rattle.cooling_only_controller_airflow.specs.declared.AlarmsStep.{AlarmsStep}
 use Rattle.cooling_only_controller.specs.declared.AirflowSteps.{AirflowSteps}
 use Rattle.cooling_only_controller.specs.declared.ControllerInput.{ControllerInput}
 use Rattle.cooling_only_controller.specs.declared.ControllerState.{ControllerState}
@@ -19,12 +17,12 @@ use Rattle.cooling_only_controller.proofs.ControllerState.output.Goals as goal
 
 -- the whole from its stages, each equal to its definition on what the stages before it gave
 whole_from : (s : ControllerState) (t : Float) (input : ControllerInput) (choices : Choices)
-    (after : TimeSuppressionStep)
+    (after : (Step TimeSuppressionState Bool))
     (air : AirflowSteps)
     (wanted_requests : SystemRequestInput)
-    (requests : SystemRequestsStep)
+    (requests : (Step SystemRequestsState SystemRequestOutput))
     (wanted_alarms : AlarmInput)
-    (alarms_now : AlarmsStep)
+    (alarms_now : (Step AlarmsState AlarmOutput))
     → after ≡ time_suppression s.time_suppression t input.cooling_setpoint input.zone_temperature
     → air ≡ airflow_steps t input choices s.control_loops s.setpoints s.zone_states s.dampers
     → wanted_requests ≡ request_input input after.output air.loops.output air.damper.output

@@ -22,12 +22,12 @@ returns c =
     let fan = input.supply_fan_status in
     let high = greater_hysteretic input.discharge_airflow (decimal 1 10 ⊗ choices.design_cooling_maximum_flow) FLOW_HYSTERESIS self.flow_high in
     rw (
-      to_z-of_z {w = w64} (record { sfits = c.alarm_level-airflow_sensor.type_inv }),
-      to_z-of_z {w = w64} (record { sfits = c.alarm_level-leaking_damper.type_inv }),
-      c.alarm_level-leaking_damper.ensures,
+      to_z-of_z {w = w64} (record { sfits = c.choose-airflow_sensor.type_inv }),
+      to_z-of_z {w = w64} (record { sfits = c.choose-leaking_damper.type_inv }),
+      c.choose-leaking_damper.ensures,
       c.output-leak_held.ensures,
       c.less_hysteretic-damper_closed.ensures,
-      c.alarm_level-airflow_sensor.ensures,
+      c.choose-airflow_sensor.ensures,
       c.output-sensor_held.ensures,
       c.greater_hysteretic-flow_high.ensures,
       ← sensor_input_by_code second high (not fan),

@@ -6,7 +6,6 @@ pub returns : goal.returns
 returns c =
     let a = c.args in
     rw (
-      c.control_loops_step.ensures,
-      c.control_loop-heating.ensures,
-      c.control_loop-cooling.ensures,
+      c.output-heating.ensures,
+      c.output-cooling.ensures,
     ) (control_loops_by_pieces a.self a.t a.cooling_setpoint a.zone_temperature a.heating_setpoint)

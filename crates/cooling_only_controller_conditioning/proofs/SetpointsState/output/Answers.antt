@@ -10,12 +10,12 @@ unfolding setpoints of_bits round
 returns c =
     rw (
       c.choose-distribution_effectiveness.ensures,
-      c.unless-occupied_minimum-2.ensures,
-      c.unless-area-2.ensures,
-      c.unless-population-2.ensures,
-      c.unless-occupied_minimum.ensures,
-      c.unless-area.ensures,
-      c.unless-population.ensures,
+      c.choose-occupied_minimum-2.ensures,
+      c.choose-area-2.ensures,
+      c.choose-population-2.ensures,
+      c.choose-occupied_minimum.ensures,
+      c.choose-area.ensures,
+      c.choose-population.ensures,
       c.unit_line-population.ensures,
       c.unit_line-occupied_minimum.ensures,
       c.choose-corrected_co2.ensures,

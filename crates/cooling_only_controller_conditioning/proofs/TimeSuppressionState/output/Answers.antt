@@ -14,7 +14,6 @@ unfolding time_suppression suppression_window
 returns c =
     rw (
       either c.output-suppression.result.output c.output-passed_latched.result.output,
-      c.time_suppression_state-state.ensures,
       c.output-passed_latched.ensures,
       c.elapsed-elapsed.ensures,
       c.suppression_window-suppression_window.ensures,

@@ -20,9 +20,9 @@ returns-then-self c =
     let next = c.sample_due-next.result in
     let last = to_z-of_z {w = w64} {z = a.self.last_index} (record { sfits = c.struct_told-1.given.1.1.0.1 }) in
     let index = to_z-of_z {w = w64} {z = next.index} (record { sfits = c.struct_told-then-self-1.given.1.0.1 }) in
-    let kept = to_z-of_z {w = w64} {z = c.last_sample_index-last_index.result} (record { sfits = c.last_sample_index-last_index.type_inv }) in
+    let kept = to_z-of_z {w = w64} {z = c.choose-last_index.result} (record { sfits = c.choose-last_index.type_inv }) in
     let due = rw last at c.sample_due-next.ensures in
-    let is = rw (index, last) at c.last_sample_index-last_index.ensures in
+    let is = rw (index, last) at c.choose-last_index.ensures in
     rw (kept, is, c.choose-held.ensures, c.if-self.true, ← due, by_due a.self a.input next.index next.due)
 
 pub returns-else-self : goal.returns-else-self

@@ -2,13 +2,13 @@
 use Rattle.std.proofs.Common.{◌≡◌, Bool, true, false, not, ℤ, refl, to_z-of_z, w64, if◌then◌else◌}
 use lib.Ieee.{Float}
 use Rattle.cooling_only_controller_timing.specs.declared.UnitDelayState.{UnitDelayState}
-use Rattle.cooling_only_controller_timing.specs.declared.UnitDelayStep.{UnitDelayStep}
+use Rattle.cooling_only_controller_timing.specs.declared.Step.{Step}
 use Rattle.cooling_only_controller_timing.specs.Timing.{unit_delay_sample}
 use Rattle.cooling_only_controller_timing.proofs.UnitDelayState.sample.Goals as goal
 
 -- a tick after the first: the step of the fields that the code picks is the step that the definition picks
 by_due : (s : UnitDelayState) (input : Float) (index : ℤ) (due : Bool)
-    → ◌≡◌ {A = UnitDelayStep} (record { state = record { initialized = true; t0 = s.t0; last_index = if due then index else s.last_index; held = if due then s.staged else s.held; staged = if due then input else s.staged }; output = if due then s.staged else s.held })
+    → ◌≡◌ {A = Step UnitDelayState Float} (record { state = record { initialized = true; t0 = s.t0; last_index = if due then index else s.last_index; held = if due then s.staged else s.held; staged = if due then input else s.staged }; output = if due then s.staged else s.held })
     (if not due then record { state = record { initialized = true; t0 = s.t0; last_index = s.last_index; held = s.held; staged = s.staged }; output = s.held } else record { state = record { initialized = true; t0 = s.t0; last_index = index; held = s.staged; staged = input }; output = s.staged })
 by_due s input index true = refl
 by_due s input index false = refl
@@ -20,9 +20,9 @@ returns-then-self c =
     let next = c.sample_due-next.result in
     let last = to_z-of_z {w = w64} {z = a.self.last_index} (record { sfits = c.struct_told-1.given.1.1.0.1 }) in
     let index = to_z-of_z {w = w64} {z = next.index} (record { sfits = c.struct_told-then-self-1.given.1.0.1 }) in
-    let kept = to_z-of_z {w = w64} {z = c.last_sample_index-last_index.result} (record { sfits = c.last_sample_index-last_index.type_inv }) in
+    let kept = to_z-of_z {w = w64} {z = c.choose-last_index.result} (record { sfits = c.choose-last_index.type_inv }) in
     let due = rw last at c.sample_due-next.ensures in
-    let is = rw (index, last) at c.last_sample_index-last_index.ensures in
+    let is = rw (index, last) at c.choose-last_index.ensures in
     rw (kept, is, c.choose-staged.ensures, c.choose-held.ensures, c.if-self.true, ← due, by_due a.self a.input next.index next.due)
 
 pub returns-else-self : goal.returns-else-self

@@ -1,7 +1,7 @@
--- `cooling_only_controller_conditioning::control_loop` meets its contract. Assumes nothing.
+-- `cooling_only_controller_conditioning::LoopState::output` meets its contract. Assumes nothing.
 use lib.Ieee.{of_bits, round}
 use Rattle.cooling_only_controller_conditioning.specs.ConditioningPieces.{control_loop}
-use Rattle.cooling_only_controller_conditioning.proofs.control_loop.Goals as goal
+use Rattle.cooling_only_controller_conditioning.proofs.LoopState.output.Goals as goal
 
 pub returns : goal.returns
 unfolding control_loop of_bits round

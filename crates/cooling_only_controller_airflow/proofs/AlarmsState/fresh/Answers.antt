@@ -1,7 +1,0 @@
--- `cooling_only_controller_airflow::AlarmsState::fresh` meets its contract. Assumes nothing.
-use lib.Ieee.{of_bits}
-use Rattle.cooling_only_controller_airflow.proofs.AlarmsState.fresh.Goals as goal
-
-pub returns : goal.returns
-unfolding of_bits
-returns c = rw c.fresh-delay.ensures
