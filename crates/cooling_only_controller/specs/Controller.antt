@@ -12,6 +12,7 @@ use Rattle.cooling_only_controller_airflow.specs.Airflow.{damper, system_request
 use Rattle.cooling_only_controller_airflow.specs.Airflow.{fresh_damper, fresh_system_requests, fresh_alarms}
 use Rattle.cooling_only_controller.specs.declared.ControllerInput.{ControllerInput}
 use Rattle.cooling_only_controller.specs.declared.ControllerState.{ControllerState}
+use Rattle.cooling_only_controller.specs.declared.ControllerOutput.{ControllerOutput}
 use Rattle.cooling_only_controller_timing.specs.declared.Step.{Step}
 
 -- Rust `ControllerState::default`: every flag false, every number 0, every time absent.

@@ -22,6 +22,10 @@ use Rattle.cooling_only_controller_airflow.specs.declared.AlarmInput.{AlarmInput
 use Rattle.cooling_only_controller_airflow.specs.declared.AlarmOutput.{AlarmOutput}
 use Rattle.cooling_only_controller.specs.declared.AirflowSteps.{AirflowSteps}
 use Rattle.cooling_only_controller.specs.declared.ControllerInput.{ControllerInput}
+use Rattle.cooling_only_controller_conditioning.specs.declared.TimeSuppressionState.{TimeSuppressionState}
+use Rattle.cooling_only_controller_airflow.specs.declared.SystemRequestsState.{SystemRequestsState}
+use Rattle.cooling_only_controller_airflow.specs.declared.AlarmsState.{AlarmsState}
+use Rattle.cooling_only_controller.specs.declared.ControllerState.{ControllerState}
 use Rattle.cooling_only_controller.specs.declared.ControllerOutput.{ControllerOutput}
 
 -- ---- what the controller hands to each stage
@@ -108,7 +112,7 @@ outputs damper setpoints requests alarms =
     }
 
 -- The next state and the ten outputs, from the stages' steps
-abbrev pub controller_step : (Step TimeSuppressionState Bool) → AirflowSteps → (Step SystemRequestsState SystemRequestOutput) → (Step AlarmsState AlarmOutput) → Step ControllerState ControllerOutput
+abbrev pub controller_step : Step TimeSuppressionState Bool → AirflowSteps → Step SystemRequestsState SystemRequestOutput → (Step AlarmsState AlarmOutput) → Step ControllerState ControllerOutput
 controller_step after_suppression air requests alarms =
     record {
       state = record {

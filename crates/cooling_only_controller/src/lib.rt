@@ -8,13 +8,13 @@ ghost use Rattle.cooling_only_controller.specs.ControllerPieces as ControllerPie
 use box_choices::Choices;
 use cooling_only_controller_airflow::{
     AlarmInput, AlarmOutput, AlarmsState, DamperInput, DamperOutput, DamperState,
-    SystemRequestInput, SystemRequestOutput, SystemRequestsState, Step<SystemRequestsState, SystemRequestOutput>,
+    SystemRequestInput, SystemRequestOutput, SystemRequestsState,
 };
 use cooling_only_controller_conditioning::{
-    ActiveAirflowOutput, ControlLoopOutput, ControlLoopsState, SetpointInput,
-    SetpointOutput, SetpointsState, TimeSuppressionState, Step<TimeSuppressionState, bool>,
-    ZoneStatesState, Step<ZoneStatesState, i64>,
+    ActiveAirflowOutput, ControlLoopOutput, ControlLoopsState, SetpointInput, SetpointOutput,
+    SetpointsState, TimeSuppressionState, ZoneStatesState,
 };
+use cooling_only_controller_timing::Step;
 
 #[repr(C)]
 #[derive(Clone, Copy)]
@@ -50,7 +50,7 @@ pub struct ControllerOutput {
     pub leaking_damper_alarm: i64,
 }
 
-#[derive(Clone, Copy)]
+#[derive(Clone, Copy, Default)]
 pub struct ControllerState {
     pub time_suppression: TimeSuppressionState,
     pub control_loops: ControlLoopsState,
@@ -74,40 +74,39 @@ impl ControllerState {
     pub fn fresh() -> ControllerState
         ensures { result ≡ Controller.fresh_controller }
     {
-        let time_suppression = TimeSuppressionState::fresh();
-        let control_loops = ControlLoopsState::fresh();
-        let setpoints = SetpointsState::fresh();
-        let zone_states = ZoneStatesState::fresh();
-        let dampers = DamperState::fresh();
-        let system_requests = SystemRequestsState::fresh();
-        let alarms = AlarmsState::fresh();
-        ControllerState {
-            time_suppression,
-            control_loops,
-            setpoints,
-            zone_states,
-            dampers,
-            system_requests,
-            alarms,
-        }
+        ControllerState::default()
     }
 
-    pub fn output(self, t: f64, input: ControllerInput, choices: Choices) -> Step<ControllerState, ControllerOutput>
+    pub fn output(
+        self,
+        t: f64,
+        input: ControllerInput,
+        choices: Choices,
+    ) -> Step<ControllerState, ControllerOutput>
         ensures { result ≡ Controller.controller_output self t input choices }
     {
         let after_suppression = self
             .time_suppression
             .output(t, input.cooling_setpoint, input.zone_temperature);
-        let loops = self.control_loops;
-        let setpoints = self.setpoints;
-        let zone = self.zone_states;
-        let dampers = self.dampers;
-        let air = airflow_steps(t, input, choices, loops, setpoints, zone, dampers);
-        let loop_output = air.loops.output;
-        let flow = air.damper.output;
-        let wanted = request_input(input, after_suppression.output, loop_output, flow);
+        let air = airflow_steps(
+            t,
+            input,
+            choices,
+            self.control_loops,
+            self.setpoints,
+            self.zone_states,
+            self.dampers,
+        );
+        let wanted = request_input(
+            input,
+            after_suppression.output,
+            air.loops.output,
+            air.damper.output,
+        );
         let requests = self.system_requests.output(t, wanted, choices);
-        let alarms = self.alarms.output(t, alarm_input(input, flow), choices);
+        let alarms = self
+            .alarms
+            .output(t, alarm_input(input, air.damper.output), choices);
         controller_step(after_suppression, air, requests, alarms)
     }
 }
@@ -130,16 +129,14 @@ pub fn airflow_steps(
         input.zone_temperature,
         input.heating_setpoint,
     );
-    let loop_output = loops.output;
-    let flows = setpoints.output(setpoint_input(input), choices);
-    let minimum = flows.output;
+    let flows = setpoints.output(input.into(), choices);
     let active = cooling_only_controller_conditioning::active_airflow(
         input.operating_mode,
-        minimum.occupied_minimum_flow,
+        flows.output.occupied_minimum_flow,
         choices,
     );
-    let zone = zone_states.output(loop_output.heating, loop_output.cooling);
-    let damper_input = damper_input(input, loop_output, active, zone.output);
+    let zone = zone_states.output(loops.output.heating, loops.output.cooling);
+    let damper_input = damper_input(input, loops.output, active, zone.output);
     let damper = dampers.output(t, damper_input, choices);
     AirflowSteps {
         loops,
@@ -158,47 +155,39 @@ fn controller_step(
 ) -> Step<ControllerState, ControllerOutput>
     ensures { result ≡ ControllerPieces.controller_step after_suppression air requests alarms }
 {
-    let time_suppression = after_suppression.state;
-    let loops = air.loops;
-    let setpoints = air.setpoints;
-    let zone = air.zone;
-    let damper = air.damper;
-    let control_loops = loops.state;
-    let setpoints_state = setpoints.state;
-    let zone_states = zone.state;
-    let dampers = damper.state;
-    let system_requests = requests.state;
-    let alarms_state = alarms.state;
-    let flow = damper.output;
-    let flows = setpoints.output;
-    let levels = requests.output;
-    let alarm = alarms.output;
-    let output = outputs(flow, flows, levels, alarm);
     Step {
         state: ControllerState {
-            time_suppression,
-            control_loops,
-            setpoints: setpoints_state,
-            zone_states,
-            dampers,
-            system_requests,
-            alarms: alarms_state,
+            time_suppression: after_suppression.state,
+            control_loops: air.loops.state,
+            setpoints: air.setpoints.state,
+            zone_states: air.zone.state,
+            dampers: air.damper.state,
+            system_requests: requests.state,
+            alarms: alarms.state,
         },
-        output,
+        output: outputs(
+            air.damper.output,
+            air.setpoints.output,
+            requests.output,
+            alarms.output,
+        ),
     }
 }
 
-fn setpoint_input(input: ControllerInput) -> SetpointInput
-    ensures { result ≡ ControllerPieces.setpoint_input input }
-{
-    SetpointInput {
-        window_status: input.window_status,
-        occupancy_status: input.occupancy_status,
-        operating_mode: input.operating_mode,
-        co2_setpoint: input.co2_setpoint,
-        co2_concentration: input.co2_concentration,
-        zone_temperature: input.zone_temperature,
-        discharge_air_temperature: input.discharge_air_temperature,
+// What the ventilation setpoints read of the input.
+impl From<ControllerInput> for SetpointInput {
+    ghost from_gives = { λ input r. r ≡ ControllerPieces.setpoint_input input };
+
+    fn from(input: ControllerInput) -> SetpointInput {
+        SetpointInput {
+            window_status: input.window_status,
+            occupancy_status: input.occupancy_status,
+            operating_mode: input.operating_mode,
+            co2_setpoint: input.co2_setpoint,
+            co2_concentration: input.co2_concentration,
+            zone_temperature: input.zone_temperature,
+            discharge_air_temperature: input.discharge_air_temperature,
+        }
     }
 }
 

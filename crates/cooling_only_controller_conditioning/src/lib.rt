@@ -354,7 +354,11 @@ impl SetpointsState {
         SetpointsState::default()
     }
 
-    pub fn output(self, input: SetpointInput, choices: Choices) -> Step<SetpointsState, SetpointOutput>
+    pub fn output(
+        self,
+        input: SetpointInput,
+        choices: Choices,
+    ) -> Step<SetpointsState, SetpointOutput>
         ensures { result ≡ Conditioning.setpoints self input choices }
     {
         let cooling_supply = greater_hysteretic(

@@ -154,7 +154,13 @@ impl TrueDelayState {
         TrueDelayState::default()
     }
 
-    pub fn output(self, t: f64, input: bool, delay_time: f64, delay_on_init: bool) -> Step<TrueDelayState, bool>
+    pub fn output(
+        self,
+        t: f64,
+        input: bool,
+        delay_time: f64,
+        delay_on_init: bool,
+    ) -> Step<TrueDelayState, bool>
         ensures { result ≡ Timing.true_delay self t input delay_time delay_on_init }
     {
         let previous_time = self.previous_time;

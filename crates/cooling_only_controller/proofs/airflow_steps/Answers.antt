@@ -3,6 +3,7 @@ use mathlib.Core.Path.{◌≡◌}
 use lib.Ieee.{Float}
 use Rattle.box_choices.specs.declared.Choices.{Choices}
 use mir.Syntax.{w64}
+use Rattle.std.specs.Prelude.{ℤ}
 use mir.Facts.{to_z-of_z}
 use Rattle.cooling_only_controller_conditioning.specs.Conditioning.{control_loops, setpoints, active_airflow, zone_states}
 use Rattle.cooling_only_controller_conditioning.specs.declared.ControlLoopsState.{ControlLoopsState}
@@ -17,17 +18,20 @@ use Rattle.cooling_only_controller_airflow.specs.declared.DamperState.{DamperSta
 use Rattle.cooling_only_controller.specs.declared.AirflowSteps.{AirflowSteps}
 use Rattle.cooling_only_controller.specs.declared.ControllerInput.{ControllerInput}
 use Rattle.cooling_only_controller.specs.ControllerPieces.{airflow_steps, setpoint_input, damper_input}
+use Rattle.cooling_only_controller_conditioning.specs.declared.ControlLoopOutput.{ControlLoopOutput}
+use Rattle.cooling_only_controller_conditioning.specs.declared.SetpointOutput.{SetpointOutput}
+use Rattle.cooling_only_controller_airflow.specs.declared.DamperOutput.{DamperOutput}
 use Rattle.cooling_only_controller.proofs.airflow_steps.Goals as goal
 
 -- the steps, each equal to its definition on what the stages before it gave
 steps_from : (t : Float) (input : ControllerInput) (choices : Choices) (l : ControlLoopsState) (s : SetpointsState) (z : ZoneStatesState) (d : DamperState)
-    (loops : (Step ControlLoopsState ControlLoopOutput))
+    (loops : Step ControlLoopsState ControlLoopOutput)
     (wanted_setpoints : SetpointInput)
-    (flows : (Step SetpointsState SetpointOutput))
+    (flows : Step SetpointsState SetpointOutput)
     (active : ActiveAirflowOutput)
-    (zone_step : (Step ZoneStatesState ℤ))
+    (zone_step : Step ZoneStatesState ℤ)
     (wanted_flow : DamperInput)
-    (air : (Step DamperState DamperOutput))
+    (air : Step DamperState DamperOutput)
     → loops ≡ control_loops l t input.cooling_setpoint input.zone_temperature input.heating_setpoint
     → wanted_setpoints ≡ setpoint_input input
     → flows ≡ setpoints s wanted_setpoints choices
@@ -46,14 +50,14 @@ returns c =
     let zone_is = to_z-of_z {w = w64} {z = c.output-zone.result.output} (record { sfits = c.struct_told-2-1.given.1.0.1 }) in
     steps_from a.t a.input a.choices a.control_loops a.setpoints a.zone_states a.dampers
     c.output-loops.result
-    c.setpoint_input.result
+    c.into.result
     c.output-flows.result
     c.active_airflow-active.result
     c.output-zone.result
     c.damper_input-damper_input.result
     c.output-damper.result
     c.output-loops.ensures
-    c.setpoint_input.ensures
+    c.into.ensures
     c.output-flows.ensures
     (rw mode at c.active_airflow-active.ensures)
     c.output-zone.ensures

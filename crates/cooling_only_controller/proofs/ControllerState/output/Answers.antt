@@ -1,5 +1,6 @@
 -- `cooling_only_controller::ControllerState::output` meets its contract. Assumes nothing.
 use mathlib.Core.Path.{◌≡◌, ◌∙◌}
+use mathlib.Core.Bool.{Bool}
 use lib.Ieee.{Float}
 use Rattle.box_choices.specs.declared.Choices.{Choices}
 use Rattle.cooling_only_controller_conditioning.specs.Conditioning.{time_suppression}
@@ -13,16 +14,21 @@ use Rattle.cooling_only_controller.specs.declared.ControllerState.{ControllerSta
 use Rattle.cooling_only_controller.specs.Controller.{controller_output}
 use Rattle.cooling_only_controller.specs.ControllerPieces.{airflow_steps, request_input, alarm_input, controller_step}
 use Rattle.cooling_only_controller.proofs.ByPieces.{controller_by_pieces}
+use Rattle.cooling_only_controller_conditioning.specs.declared.TimeSuppressionState.{TimeSuppressionState}
+use Rattle.cooling_only_controller_airflow.specs.declared.SystemRequestsState.{SystemRequestsState}
+use Rattle.cooling_only_controller_airflow.specs.declared.SystemRequestOutput.{SystemRequestOutput}
+use Rattle.cooling_only_controller_airflow.specs.declared.AlarmsState.{AlarmsState}
+use Rattle.cooling_only_controller_airflow.specs.declared.AlarmOutput.{AlarmOutput}
 use Rattle.cooling_only_controller.proofs.ControllerState.output.Goals as goal
 
 -- the whole from its stages, each equal to its definition on what the stages before it gave
 whole_from : (s : ControllerState) (t : Float) (input : ControllerInput) (choices : Choices)
-    (after : (Step TimeSuppressionState Bool))
+    (after : Step TimeSuppressionState Bool)
     (air : AirflowSteps)
     (wanted_requests : SystemRequestInput)
-    (requests : (Step SystemRequestsState SystemRequestOutput))
+    (requests : Step SystemRequestsState SystemRequestOutput)
     (wanted_alarms : AlarmInput)
-    (alarms_now : (Step AlarmsState AlarmOutput))
+    (alarms_now : Step AlarmsState AlarmOutput)
     → after ≡ time_suppression s.time_suppression t input.cooling_setpoint input.zone_temperature
     → air ≡ airflow_steps t input choices s.control_loops s.setpoints s.zone_states s.dampers
     → wanted_requests ≡ request_input input after.output air.loops.output air.damper.output
