@@ -107,29 +107,68 @@ module _ (b : Refusal → Bool) where
       asked TooLongAfterLast found _ f3 (λ y4 h4. let f4 : Below b 5 = one_more 4 f3 y4 in
       asked TemperatureOutOfRange found _ f4 (λ y5 h5. let f5 : Below b 6 = one_more 5 f4 y5 in
       asked Co2OutOfRange found _ f5 (λ y6 h6. let f6 : Below b 7 = one_more 6 f5 y6 in
-      asked AirflowOutOfRange found _ f6 (λ y7 h7. never h7) h6) h5) h4) h3) h2) h1) h
-    where
-      never : Ok (tt {0}) ≡ Err found → First found
-      never h = let z : ◌≡◌ {A = ℕ} 0 1 = cc in absurd (omega arith)
+      asked AirflowOutOfRange found _ f6 (λ y7 h7. cc) h6) h5) h4) h3) h2) h1) h
 
-  -- a question that gets a "yes" leaves the decision to the rest, and a "no" decides
-  pass : (x : Refusal) (rest : Result ⊤ Refusal) → T (b x) → cond (not (b x)) (Err x) rest ≡ rest
-  pass x rest y = rw (is_true (b x) y)
-
-  stop : (x : Refusal) (rest : Result ⊤ Refusal) → T (not (b x)) → cond (not (b x)) (Err x) rest ≡ Err x
-  stop x rest n = rw (is_false (b x) n)
-
+  -- each question before the first "no" gets a "yes"
   first→refused : (found : Refusal) → First found → verdict b ≡ Err found
-  first→refused NotWholeSeconds f = stop NotWholeSeconds _ f.0
-  first→refused TimeOutOfRange f = pass NotWholeSeconds _ (f.1 NotWholeSeconds (lit< tt)) ∙ stop TimeOutOfRange _ f.0
-  first→refused BeforeLast f = pass NotWholeSeconds _ (f.1 NotWholeSeconds (lit< tt)) ∙ pass TimeOutOfRange _ (f.1 TimeOutOfRange (lit< tt)) ∙ stop BeforeLast _ f.0
-  first→refused TooLongAfterLast f = pass NotWholeSeconds _ (f.1 NotWholeSeconds (lit< tt)) ∙ pass TimeOutOfRange _ (f.1 TimeOutOfRange (lit< tt)) ∙ pass BeforeLast _ (f.1 BeforeLast (lit< tt)) ∙ stop TooLongAfterLast _ f.0
-  first→refused TemperatureOutOfRange f = pass NotWholeSeconds _ (f.1 NotWholeSeconds (lit< tt)) ∙ pass TimeOutOfRange _ (f.1 TimeOutOfRange (lit< tt)) ∙ pass BeforeLast _ (f.1 BeforeLast (lit< tt)) ∙ pass TooLongAfterLast _ (f.1 TooLongAfterLast (lit< tt)) ∙ stop TemperatureOutOfRange _ f.0
-  first→refused Co2OutOfRange f = pass NotWholeSeconds _ (f.1 NotWholeSeconds (lit< tt)) ∙ pass TimeOutOfRange _ (f.1 TimeOutOfRange (lit< tt)) ∙ pass BeforeLast _ (f.1 BeforeLast (lit< tt)) ∙ pass TooLongAfterLast _ (f.1 TooLongAfterLast (lit< tt)) ∙ pass TemperatureOutOfRange _ (f.1 TemperatureOutOfRange (lit< tt)) ∙ stop Co2OutOfRange _ f.0
-  first→refused AirflowOutOfRange f = pass NotWholeSeconds _ (f.1 NotWholeSeconds (lit< tt)) ∙ pass TimeOutOfRange _ (f.1 TimeOutOfRange (lit< tt)) ∙ pass BeforeLast _ (f.1 BeforeLast (lit< tt)) ∙ pass TooLongAfterLast _ (f.1 TooLongAfterLast (lit< tt)) ∙ pass TemperatureOutOfRange _ (f.1 TemperatureOutOfRange (lit< tt)) ∙ pass Co2OutOfRange _ (f.1 Co2OutOfRange (lit< tt)) ∙ stop AirflowOutOfRange _ f.0
+  first→refused NotWholeSeconds f = rw (is_false (b NotWholeSeconds) f.0)
+  first→refused TimeOutOfRange f =
+      rw (
+        is_true (b NotWholeSeconds) (f.1 NotWholeSeconds (lit< tt)),
+        is_false (b TimeOutOfRange) f.0,
+      )
+  first→refused BeforeLast f =
+      rw (
+        is_true (b NotWholeSeconds) (f.1 NotWholeSeconds (lit< tt)),
+        is_true (b TimeOutOfRange) (f.1 TimeOutOfRange (lit< tt)),
+        is_false (b BeforeLast) f.0,
+      )
+  first→refused TooLongAfterLast f =
+      rw (
+        is_true (b NotWholeSeconds) (f.1 NotWholeSeconds (lit< tt)),
+        is_true (b TimeOutOfRange) (f.1 TimeOutOfRange (lit< tt)),
+        is_true (b BeforeLast) (f.1 BeforeLast (lit< tt)),
+        is_false (b TooLongAfterLast) f.0,
+      )
+  first→refused TemperatureOutOfRange f =
+      rw (
+        is_true (b NotWholeSeconds) (f.1 NotWholeSeconds (lit< tt)),
+        is_true (b TimeOutOfRange) (f.1 TimeOutOfRange (lit< tt)),
+        is_true (b BeforeLast) (f.1 BeforeLast (lit< tt)),
+        is_true (b TooLongAfterLast) (f.1 TooLongAfterLast (lit< tt)),
+        is_false (b TemperatureOutOfRange) f.0,
+      )
+  first→refused Co2OutOfRange f =
+      rw (
+        is_true (b NotWholeSeconds) (f.1 NotWholeSeconds (lit< tt)),
+        is_true (b TimeOutOfRange) (f.1 TimeOutOfRange (lit< tt)),
+        is_true (b BeforeLast) (f.1 BeforeLast (lit< tt)),
+        is_true (b TooLongAfterLast) (f.1 TooLongAfterLast (lit< tt)),
+        is_true (b TemperatureOutOfRange) (f.1 TemperatureOutOfRange (lit< tt)),
+        is_false (b Co2OutOfRange) f.0,
+      )
+  first→refused AirflowOutOfRange f =
+      rw (
+        is_true (b NotWholeSeconds) (f.1 NotWholeSeconds (lit< tt)),
+        is_true (b TimeOutOfRange) (f.1 TimeOutOfRange (lit< tt)),
+        is_true (b BeforeLast) (f.1 BeforeLast (lit< tt)),
+        is_true (b TooLongAfterLast) (f.1 TooLongAfterLast (lit< tt)),
+        is_true (b TemperatureOutOfRange) (f.1 TemperatureOutOfRange (lit< tt)),
+        is_true (b Co2OutOfRange) (f.1 Co2OutOfRange (lit< tt)),
+        is_false (b AirflowOutOfRange) f.0,
+      )
 
   all→accept : ((reason : Refusal) → T (b reason)) → verdict b ≡ Ok tt
-  all→accept f = pass NotWholeSeconds _ (f NotWholeSeconds) ∙ pass TimeOutOfRange _ (f TimeOutOfRange) ∙ pass BeforeLast _ (f BeforeLast) ∙ pass TooLongAfterLast _ (f TooLongAfterLast) ∙ pass TemperatureOutOfRange _ (f TemperatureOutOfRange) ∙ pass Co2OutOfRange _ (f Co2OutOfRange) ∙ pass AirflowOutOfRange _ (f AirflowOutOfRange)
+  all→accept f =
+      rw (
+        is_true (b NotWholeSeconds) (f NotWholeSeconds),
+        is_true (b TimeOutOfRange) (f TimeOutOfRange),
+        is_true (b BeforeLast) (f BeforeLast),
+        is_true (b TooLongAfterLast) (f TooLongAfterLast),
+        is_true (b TemperatureOutOfRange) (f TemperatureOutOfRange),
+        is_true (b Co2OutOfRange) (f Co2OutOfRange),
+        is_true (b AirflowOutOfRange) (f AirflowOutOfRange),
+      )
 
   -- a verdict that is none of a refusal: this question gets a "yes", and the rest decides likewise
   let_pass : (x : Refusal) (rest : Result ⊤ Refusal) → cond (not (b x)) (Err x) rest ≡ Ok tt → T (b x) × (rest ≡ Ok tt)
@@ -137,7 +176,7 @@ module _ (b : Refusal → Bool) where
     where
       go : (q : Bool) → b x ≡ q → cond (not q) (Err x) rest ≡ Ok tt → T (b x) × (rest ≡ Ok tt)
       go true e h = (subst T (sym e) tt, h)
-      go false e h = let z : ◌≡◌ {A = ℕ} 0 1 = cc in absurd (omega arith)
+      go false e h = cc
 
   accept→all : verdict b ≡ Ok tt → (reason : Refusal) → T (b reason)
   accept→all h reason =
@@ -205,7 +244,7 @@ gives_number box k reason first = ap (λ (s : AirBoxStep). outputs_or_number s.a
 
 -- outputs are no number
 apart : {P : Type 0} (given : ControllerOutput ⊎ ℕ) (output : ControllerOutput) (number : ℕ) → given ≡ inl output → given ≡ inr number → P
-apart given output number e f = let z : ◌≡◌ {A = ℕ} 0 1 = cc in absurd (omega arith)
+apart given output number e f = cc
 
 same_number : (given : ControllerOutput ⊎ ℕ) (n m : ℕ) → given ≡ inr n → given ≡ inr m → n ≡ m
 same_number given n m e f = cc
