@@ -1,6 +1,7 @@
 -- Demands 1 and 2, from the order in which `questions` asks. The laws of the questions (`questions_accept`, `questions_refuse`, `accepted_time`) and of a tick by its verdict (`tick_accepted`, `tick_refused`) serve the claims about nights too. Assumes nothing.
 use mathlib.Core.Path.{◌≡◌, refl, sym, ap, ◌∙◌, subst}
 use mathlib.Core.Logic.{◌↔◌, ◌⊎◌, inl, inr}
+use Rattle.std.specs.Prelude.{Result, Ok, Err, ⊤}
 use Prim.Native.Nat.{ℕ, ◌+◌, ◌<◌, ◌≤◌}
 use native.Mathlib.Omega.{arith}
 use mathlib.Core.Bool.{Bool, true, false, not, cond}
@@ -16,24 +17,21 @@ use Rattle.air_box.specs.Demand2.{controller_step_of, Demand2}
 use Rattle.air_box.specs.declared.Tick.{Tick}
 use Rattle.air_box.specs.declared.AirBox.{AirBox}
 use Rattle.air_box.specs.declared.AirBoxStep.{AirBoxStep}
-use Rattle.air_box.specs.declared.Answer.TheVariants.{Refused}
 use Rattle.air_box.specs.declared.Refusal.{Refusal}
 use Rattle.air_box.specs.declared.Refusal.TheVariants.{NotWholeSeconds, TimeOutOfRange, BeforeLast, TooLongAfterLast, TemperatureOutOfRange, Co2OutOfRange, AirflowOutOfRange}
-use Rattle.air_box.specs.declared.Verdict.{Verdict}
-use Rattle.air_box.specs.declared.Verdict.TheVariants.{Accept, Refuse}
 
 -- ---- seven answers, asked in order
--- `Accept` if b is true of every reason, else the first of which it is false
-abbrev verdict : (Refusal → Bool) → Verdict
+-- `Ok tt` if b is true of every reason, else the first of which it is false
+abbrev verdict : (Refusal → Bool) → Result ⊤ Refusal
 verdict b =
-    cond (not (b NotWholeSeconds)) (Refuse NotWholeSeconds)
-    (cond (not (b TimeOutOfRange)) (Refuse TimeOutOfRange)
-    (cond (not (b BeforeLast)) (Refuse BeforeLast)
-    (cond (not (b TooLongAfterLast)) (Refuse TooLongAfterLast)
-    (cond (not (b TemperatureOutOfRange)) (Refuse TemperatureOutOfRange)
-    (cond (not (b Co2OutOfRange)) (Refuse Co2OutOfRange)
-    (cond (not (b AirflowOutOfRange)) (Refuse AirflowOutOfRange)
-    Accept))))))
+    cond (not (b NotWholeSeconds)) (Err NotWholeSeconds)
+    (cond (not (b TimeOutOfRange)) (Err TimeOutOfRange)
+    (cond (not (b BeforeLast)) (Err BeforeLast)
+    (cond (not (b TooLongAfterLast)) (Err TooLongAfterLast)
+    (cond (not (b TemperatureOutOfRange)) (Err TemperatureOutOfRange)
+    (cond (not (b Co2OutOfRange)) (Err Co2OutOfRange)
+    (cond (not (b AirflowOutOfRange)) (Err AirflowOutOfRange)
+    (Ok tt)))))))
 
 questions_are : (last : OptionalTime) (k : Tick) → questions last k ≡ verdict (λ (reason : Refusal). yes reason last k)
 unfolding questions
@@ -93,15 +91,15 @@ module _ (b : Refusal → Bool) where
   First reason = T (not (b reason)) × Below b (refusal_number reason)
 
   -- one question: it gets the first "no", or the rest decides
-  asked : (x : Refusal) (found : Refusal) (rest : Verdict) → Below b (refusal_number x) → (T (b x) → rest ≡ Refuse found → First found) → cond (not (b x)) (Refuse x) rest ≡ Refuse found → First found
+  asked : (x : Refusal) (found : Refusal) (rest : Result ⊤ Refusal) → Below b (refusal_number x) → (T (b x) → rest ≡ Err found → First found) → cond (not (b x)) (Err x) rest ≡ Err found → First found
   asked x found rest f next h = go (b x) refl h
     where
-      go : (q : Bool) → b x ≡ q → cond (not q) (Refuse x) rest ≡ Refuse found → First found
+      go : (q : Bool) → b x ≡ q → cond (not q) (Err x) rest ≡ Err found → First found
       go true e h = next (subst T (sym e) tt) h
       go false e h = let same : x ≡ found = cc in subst First same (subst (λ (q : Bool). T (not q)) (sym e) tt, f)
 
   -- the verdict is a refusal exactly if its reason is the first "no"
-  refused→first : (found : Refusal) → verdict b ≡ Refuse found → First found
+  refused→first : (found : Refusal) → verdict b ≡ Err found → First found
   refused→first found h =
       asked NotWholeSeconds found _ none_below (λ y1 h1. let f1 : Below b 2 = one_more 1 none_below y1 in
       asked TimeOutOfRange found _ f1 (λ y2 h2. let f2 : Below b 3 = one_more 2 f1 y2 in
@@ -109,39 +107,78 @@ module _ (b : Refusal → Bool) where
       asked TooLongAfterLast found _ f3 (λ y4 h4. let f4 : Below b 5 = one_more 4 f3 y4 in
       asked TemperatureOutOfRange found _ f4 (λ y5 h5. let f5 : Below b 6 = one_more 5 f4 y5 in
       asked Co2OutOfRange found _ f5 (λ y6 h6. let f6 : Below b 7 = one_more 6 f5 y6 in
-      asked AirflowOutOfRange found _ f6 (λ y7 h7. never h7) h6) h5) h4) h3) h2) h1) h
-    where
-      never : Accept ≡ Refuse found → First found
-      never h = let z : ◌≡◌ {A = ℕ} 0 1 = cc in absurd (omega arith)
+      asked AirflowOutOfRange found _ f6 (λ y7 h7. cc) h6) h5) h4) h3) h2) h1) h
 
-  -- a question that gets a "yes" leaves the decision to the rest, and a "no" decides
-  pass : (x : Refusal) (rest : Verdict) → T (b x) → cond (not (b x)) (Refuse x) rest ≡ rest
-  pass x rest y = rw (is_true (b x) y)
+  -- each question before the first "no" gets a "yes"
+  first→refused : (found : Refusal) → First found → verdict b ≡ Err found
+  first→refused NotWholeSeconds f = rw (is_false (b NotWholeSeconds) f.0)
+  first→refused TimeOutOfRange f =
+      rw (
+        is_true (b NotWholeSeconds) (f.1 NotWholeSeconds (lit< tt)),
+        is_false (b TimeOutOfRange) f.0,
+      )
+  first→refused BeforeLast f =
+      rw (
+        is_true (b NotWholeSeconds) (f.1 NotWholeSeconds (lit< tt)),
+        is_true (b TimeOutOfRange) (f.1 TimeOutOfRange (lit< tt)),
+        is_false (b BeforeLast) f.0,
+      )
+  first→refused TooLongAfterLast f =
+      rw (
+        is_true (b NotWholeSeconds) (f.1 NotWholeSeconds (lit< tt)),
+        is_true (b TimeOutOfRange) (f.1 TimeOutOfRange (lit< tt)),
+        is_true (b BeforeLast) (f.1 BeforeLast (lit< tt)),
+        is_false (b TooLongAfterLast) f.0,
+      )
+  first→refused TemperatureOutOfRange f =
+      rw (
+        is_true (b NotWholeSeconds) (f.1 NotWholeSeconds (lit< tt)),
+        is_true (b TimeOutOfRange) (f.1 TimeOutOfRange (lit< tt)),
+        is_true (b BeforeLast) (f.1 BeforeLast (lit< tt)),
+        is_true (b TooLongAfterLast) (f.1 TooLongAfterLast (lit< tt)),
+        is_false (b TemperatureOutOfRange) f.0,
+      )
+  first→refused Co2OutOfRange f =
+      rw (
+        is_true (b NotWholeSeconds) (f.1 NotWholeSeconds (lit< tt)),
+        is_true (b TimeOutOfRange) (f.1 TimeOutOfRange (lit< tt)),
+        is_true (b BeforeLast) (f.1 BeforeLast (lit< tt)),
+        is_true (b TooLongAfterLast) (f.1 TooLongAfterLast (lit< tt)),
+        is_true (b TemperatureOutOfRange) (f.1 TemperatureOutOfRange (lit< tt)),
+        is_false (b Co2OutOfRange) f.0,
+      )
+  first→refused AirflowOutOfRange f =
+      rw (
+        is_true (b NotWholeSeconds) (f.1 NotWholeSeconds (lit< tt)),
+        is_true (b TimeOutOfRange) (f.1 TimeOutOfRange (lit< tt)),
+        is_true (b BeforeLast) (f.1 BeforeLast (lit< tt)),
+        is_true (b TooLongAfterLast) (f.1 TooLongAfterLast (lit< tt)),
+        is_true (b TemperatureOutOfRange) (f.1 TemperatureOutOfRange (lit< tt)),
+        is_true (b Co2OutOfRange) (f.1 Co2OutOfRange (lit< tt)),
+        is_false (b AirflowOutOfRange) f.0,
+      )
 
-  stop : (x : Refusal) (rest : Verdict) → T (not (b x)) → cond (not (b x)) (Refuse x) rest ≡ Refuse x
-  stop x rest n = rw (is_false (b x) n)
-
-  first→refused : (found : Refusal) → First found → verdict b ≡ Refuse found
-  first→refused NotWholeSeconds f = stop NotWholeSeconds _ f.0
-  first→refused TimeOutOfRange f = pass NotWholeSeconds _ (f.1 NotWholeSeconds (lit< tt)) ∙ stop TimeOutOfRange _ f.0
-  first→refused BeforeLast f = pass NotWholeSeconds _ (f.1 NotWholeSeconds (lit< tt)) ∙ pass TimeOutOfRange _ (f.1 TimeOutOfRange (lit< tt)) ∙ stop BeforeLast _ f.0
-  first→refused TooLongAfterLast f = pass NotWholeSeconds _ (f.1 NotWholeSeconds (lit< tt)) ∙ pass TimeOutOfRange _ (f.1 TimeOutOfRange (lit< tt)) ∙ pass BeforeLast _ (f.1 BeforeLast (lit< tt)) ∙ stop TooLongAfterLast _ f.0
-  first→refused TemperatureOutOfRange f = pass NotWholeSeconds _ (f.1 NotWholeSeconds (lit< tt)) ∙ pass TimeOutOfRange _ (f.1 TimeOutOfRange (lit< tt)) ∙ pass BeforeLast _ (f.1 BeforeLast (lit< tt)) ∙ pass TooLongAfterLast _ (f.1 TooLongAfterLast (lit< tt)) ∙ stop TemperatureOutOfRange _ f.0
-  first→refused Co2OutOfRange f = pass NotWholeSeconds _ (f.1 NotWholeSeconds (lit< tt)) ∙ pass TimeOutOfRange _ (f.1 TimeOutOfRange (lit< tt)) ∙ pass BeforeLast _ (f.1 BeforeLast (lit< tt)) ∙ pass TooLongAfterLast _ (f.1 TooLongAfterLast (lit< tt)) ∙ pass TemperatureOutOfRange _ (f.1 TemperatureOutOfRange (lit< tt)) ∙ stop Co2OutOfRange _ f.0
-  first→refused AirflowOutOfRange f = pass NotWholeSeconds _ (f.1 NotWholeSeconds (lit< tt)) ∙ pass TimeOutOfRange _ (f.1 TimeOutOfRange (lit< tt)) ∙ pass BeforeLast _ (f.1 BeforeLast (lit< tt)) ∙ pass TooLongAfterLast _ (f.1 TooLongAfterLast (lit< tt)) ∙ pass TemperatureOutOfRange _ (f.1 TemperatureOutOfRange (lit< tt)) ∙ pass Co2OutOfRange _ (f.1 Co2OutOfRange (lit< tt)) ∙ stop AirflowOutOfRange _ f.0
-
-  all→accept : ((reason : Refusal) → T (b reason)) → verdict b ≡ Accept
-  all→accept f = pass NotWholeSeconds _ (f NotWholeSeconds) ∙ pass TimeOutOfRange _ (f TimeOutOfRange) ∙ pass BeforeLast _ (f BeforeLast) ∙ pass TooLongAfterLast _ (f TooLongAfterLast) ∙ pass TemperatureOutOfRange _ (f TemperatureOutOfRange) ∙ pass Co2OutOfRange _ (f Co2OutOfRange) ∙ pass AirflowOutOfRange _ (f AirflowOutOfRange)
+  all→accept : ((reason : Refusal) → T (b reason)) → verdict b ≡ Ok tt
+  all→accept f =
+      rw (
+        is_true (b NotWholeSeconds) (f NotWholeSeconds),
+        is_true (b TimeOutOfRange) (f TimeOutOfRange),
+        is_true (b BeforeLast) (f BeforeLast),
+        is_true (b TooLongAfterLast) (f TooLongAfterLast),
+        is_true (b TemperatureOutOfRange) (f TemperatureOutOfRange),
+        is_true (b Co2OutOfRange) (f Co2OutOfRange),
+        is_true (b AirflowOutOfRange) (f AirflowOutOfRange),
+      )
 
   -- a verdict that is none of a refusal: this question gets a "yes", and the rest decides likewise
-  let_pass : (x : Refusal) (rest : Verdict) → cond (not (b x)) (Refuse x) rest ≡ Accept → T (b x) × (rest ≡ Accept)
+  let_pass : (x : Refusal) (rest : Result ⊤ Refusal) → cond (not (b x)) (Err x) rest ≡ Ok tt → T (b x) × (rest ≡ Ok tt)
   let_pass x rest h = go (b x) refl h
     where
-      go : (q : Bool) → b x ≡ q → cond (not q) (Refuse x) rest ≡ Accept → T (b x) × (rest ≡ Accept)
+      go : (q : Bool) → b x ≡ q → cond (not q) (Err x) rest ≡ Ok tt → T (b x) × (rest ≡ Ok tt)
       go true e h = (subst T (sym e) tt, h)
-      go false e h = let z : ◌≡◌ {A = ℕ} 0 1 = cc in absurd (omega arith)
+      go false e h = cc
 
-  accept→all : verdict b ≡ Accept → (reason : Refusal) → T (b reason)
+  accept→all : verdict b ≡ Ok tt → (reason : Refusal) → T (b reason)
   accept→all h reason =
       let p1 = let_pass NotWholeSeconds _ h in
       let p2 = let_pass TimeOutOfRange _ p1.1 in
@@ -163,7 +200,7 @@ module _ (b : Refusal → Bool) where
       each AirflowOutOfRange y1 y2 y3 y4 y5 y6 y7 = y7
 
 -- ---- the questions, asked of a tick after the last accepted time `last`
-pub questions_accept : (last : OptionalTime) (k : Tick) → (questions last k ≡ Accept) ↔ AllYes last k
+pub questions_accept : (last : OptionalTime) (k : Tick) → (questions last k ≡ Ok tt) ↔ AllYes last k
 questions_accept last k =
     let answers : Refusal → Bool = λ reason. yes reason last k in
     (λ e. accept→all answers (sym (questions_are last k) ∙ e), λ all. questions_are last k ∙ all→accept answers all)
@@ -172,7 +209,7 @@ questions_accept last k =
 pub accepted_time : (last : OptionalTime) (k : Tick) → AllYes last k → IsTime k.t
 accepted_time last k all = time_of_whole k.t (all NotWholeSeconds) (all TimeOutOfRange)
 
-pub questions_refuse : (last : OptionalTime) (k : Tick) (reason : Refusal) → (questions last k ≡ Refuse reason) ↔ FirstNo reason last k
+pub questions_refuse : (last : OptionalTime) (k : Tick) (reason : Refusal) → (questions last k ≡ Err reason) ↔ FirstNo reason last k
 questions_refuse last k reason =
     let answers : Refusal → Bool = λ reason. yes reason last k in (
       λ e. let f = refused→first answers reason (sym (questions_are last k) ∙ e) in record { is_no = f.0; earlier_yes = f.1 },
@@ -185,7 +222,7 @@ unfolding tick
 tick_accepted box k all = rw ((questions_accept box.last_time k).1 all)
 
 pub tick_refused : (box : AirBox) (k : Tick) (reason : Refusal) → FirstNo reason box.last_time k
-    → tick box k ≡ record { state = box; answer = Refused reason }
+    → tick box k ≡ record { state = box; answer = Err reason }
 unfolding tick
 tick_refused box k reason first = rw ((questions_refuse box.last_time k reason).1 first)
 
@@ -193,9 +230,9 @@ tick_refused box k reason first = rw ((questions_refuse box.last_time k reason).
 pub by_verdict : {P : Type 0} (last : OptionalTime) (k : Tick) → (AllYes last k → P) → ((reason : Refusal) → FirstNo reason last k → P) → P
 by_verdict {P} last k yes_all no_first = go (questions last k) refl
   where
-    go : (v : Verdict) → questions last k ≡ v → P
-    go Accept e = yes_all ((questions_accept last k).0 e)
-    go (Refuse reason) e = no_first reason ((questions_refuse last k reason).0 e)
+    go : (v : Result ⊤ Refusal) → questions last k ≡ v → P
+    go (Ok _) e = yes_all ((questions_accept last k).0 e)
+    go (Err reason) e = no_first reason ((questions_refuse last k reason).0 e)
 
 -- ---- what a tick gives
 gives_outputs : (box : AirBox) (k : Tick) → AllYes box.last_time k → given_for box k ≡ inl (controller_step_of box k).output
@@ -207,7 +244,7 @@ gives_number box k reason first = ap (λ (s : AirBoxStep). outputs_or_number s.a
 
 -- outputs are no number
 apart : {P : Type 0} (given : ControllerOutput ⊎ ℕ) (output : ControllerOutput) (number : ℕ) → given ≡ inl output → given ≡ inr number → P
-apart given output number e f = let z : ◌≡◌ {A = ℕ} 0 1 = cc in absurd (omega arith)
+apart given output number e f = cc
 
 same_number : (given : ControllerOutput ⊎ ℕ) (n m : ℕ) → given ≡ inr n → given ≡ inr m → n ≡ m
 same_number given n m e f = cc

@@ -1,13 +1,12 @@
 -- N7. The alarms of an accepted tick are those of the alarms stage, whose laws leave seven lines; each claim about a tick is then a claim about those seven. Assumes nothing.
 use mathlib.Core.Path.{◌≡◌, refl, sym, ap, ◌∙◌, subst}
-use mathlib.Core.Logic.{◌⊎◌, ◌≢◌, inl, inr}
+use mathlib.Core.Logic.{◌⊎◌, inl, inr}
 use Prim.Native.Nat.{ℕ}
-use mathlib.Core.Bool.{Bool, true, false, not}
+use mathlib.Core.Bool.{Bool, true, false}
 use lib.IntN.{pos}
-use lib.Dec.{T, T_not, not_T, eqb, eqb→eq}
+use lib.Dec.{not_T}
 use lib.Ieee.{Float, round, neg, sub, mul, lt, le, eq, is_nan}
 use lib.Ieee.Bits.{is_true, is_false}
-use lib.Ieee.Fits.{eq→eqb}
 use Rattle.f64_helpers.specs.F64.{decimal}
 use Rattle.f64_helpers.specs.Helpers.{max}
 use Rattle.f64_helpers.specs.Integers.{◌==ᶻ◌}
@@ -95,13 +94,6 @@ by_lines P p000 p200 p300 p030 p004 p204 p304 box k a shows = go (complete box k
     go (inr (inr (inr (inr (inr (inr (inl e))))))) = at _ p304 e
     go (inr (inr (inr (inr (inr (inr (inr e))))))) = absurd e
 
--- ---- codes and levels that differ
-apart : (m n : ℕ) → T (not (eqb m n)) → m ≢ n
-apart m n d e = T_not (eqb m n) d (eq→eqb e)
-
-levels_apart : (m n : ℕ) → T (not (eqb m n)) → pos m ≢ pos n
-levels_apart m n d e = apart m n d (eqb→eq m n ((equals_means (pos m) n).1 e))
-
 -- ---- the list of changes, of a line that stays and of the two that move
 kept : (a : AlarmOutput) → code a ≡ old_code a → ¬ ((a.leaking_damper ≡ pos 4) × Low a) → ListOfChanges a
 kept a same none = record {
@@ -112,11 +104,11 @@ kept a same none = record {
 }
 
 without_a_leak : (low sensor : ℕ) → ¬ ((pos 0 ≡ pos 4) × Low (levels low sensor 0))
-without_a_leak low sensor both = levels_apart 0 4 tt both.0
+without_a_leak low sensor both = cc
 
 without_low : (sensor leak : ℕ) → ¬ Low (levels 0 sensor leak)
-without_low sensor leak (inl e) = levels_apart 0 2 tt e
-without_low sensor leak (inr e) = levels_apart 0 3 tt e
+without_low sensor leak (inl e) = cc
+without_low sensor leak (inr e) = cc
 
 list_of_changes : AtEveryTick ListOfChanges
 unfolding desk_code
@@ -128,14 +120,14 @@ list_of_changes =
     (kept (levels 0 3 0) refl (without_a_leak 0 3))
     (kept (levels 0 0 4) refl (λ both. without_low 0 4 both.1))
     record {
-      changed = (λ other. (refl, inl refl), λ both. apart 34 12 tt);
+      changed = (λ other. (refl, inl refl), λ both e. cc);
       from_12 = λ leak low. (refl, refl);
-      from_13 = λ leak low. absurd (levels_apart 2 3 tt low);
+      from_13 = λ leak low. cc;
       no_other = λ none. absurd (none (refl, inl refl));
     }
     record {
-      changed = (λ other. (refl, inr refl), λ both. apart 34 13 tt);
-      from_12 = λ leak low. absurd (levels_apart 3 2 tt low);
+      changed = (λ other. (refl, inr refl), λ both e. cc);
+      from_12 = λ leak low. cc;
       from_13 = λ leak low. (refl, refl);
       no_other = λ none. absurd (none (refl, inr refl));
     }
@@ -143,27 +135,24 @@ list_of_changes =
 -- ---- the sensor rule overlaps neither
 without_sensor : (low leak : ℕ) → SensorAlone (levels low 0 leak)
 without_sensor low leak = record {
-  without_leak = λ sensor. absurd (levels_apart 0 3 tt sensor);
-  without_low = λ sensor. absurd (levels_apart 0 3 tt sensor);
+  without_leak = λ sensor. cc;
+  without_low = λ sensor. cc;
 }
 
 sensor_alone : AtEveryTick SensorAlone
 sensor_alone =
     by_lines SensorAlone (without_sensor 0 0) (without_sensor 2 0) (without_sensor 3 0)
-    record { without_leak = λ sensor. levels_apart 0 4 tt; without_low = λ sensor. without_low 3 0 }
+    record { without_leak = λ sensor leak. cc; without_low = λ sensor. without_low 3 0 }
     (without_sensor 0 4) (without_sensor 2 4) (without_sensor 3 4)
 
 -- ---- what a code tells: its own alarms, and nothing of another code's
-not_its : {P : Type 0} (c d : ℕ) → T (not (eqb c d)) → c ≡ d → P
-not_its c d differ e = absurd (apart c d differ e)
-
 tells_leak : (low : ℕ) → Tells (levels low 0 4)
 unfolding desk_code
 tells_leak low = record {
-  code_0 = not_its 34 0 tt;
-  code_12 = not_its 34 12 tt;
-  code_13 = not_its 34 13 tt;
-  code_23 = not_its 34 23 tt;
+  code_0 = λ e. cc;
+  code_12 = λ e. cc;
+  code_13 = λ e. cc;
+  code_23 = λ e. cc;
   code_34 = λ e. (refl, refl);
 }
 
@@ -171,10 +160,10 @@ tells : AtEveryTick Tells
 unfolding desk_code
 tells =
     by_lines Tells
-    record { code_0 = λ e. refl; code_12 = not_its 0 12 tt; code_13 = not_its 0 13 tt; code_23 = not_its 0 23 tt; code_34 = not_its 0 34 tt }
-    record { code_0 = not_its 12 0 tt; code_12 = λ e. refl; code_13 = not_its 12 13 tt; code_23 = not_its 12 23 tt; code_34 = not_its 12 34 tt }
-    record { code_0 = not_its 13 0 tt; code_12 = not_its 13 12 tt; code_13 = λ e. refl; code_23 = not_its 13 23 tt; code_34 = not_its 13 34 tt }
-    record { code_0 = not_its 23 0 tt; code_12 = not_its 23 12 tt; code_13 = not_its 23 13 tt; code_23 = λ e. refl; code_34 = not_its 23 34 tt }
+    record { code_0 = λ e. refl; code_12 = λ e. cc; code_13 = λ e. cc; code_23 = λ e. cc; code_34 = λ e. cc }
+    record { code_0 = λ e. cc; code_12 = λ e. refl; code_13 = λ e. cc; code_23 = λ e. cc; code_34 = λ e. cc }
+    record { code_0 = λ e. cc; code_12 = λ e. cc; code_13 = λ e. refl; code_23 = λ e. cc; code_34 = λ e. cc }
+    record { code_0 = λ e. cc; code_12 = λ e. cc; code_13 = λ e. cc; code_23 = λ e. refl; code_34 = λ e. cc }
     (tells_leak 0) (tells_leak 2) (tells_leak 3)
 
 -- ---- of any three numbers, by the test that comes first

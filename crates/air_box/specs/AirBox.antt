@@ -1,6 +1,6 @@
 -- The air box of document 01: the Rust's state with the last accepted time and what was chosen when it was built beside it,
 -- the questions asked of a tick, the quiet start, building (document 02, N13) and the desk code.
-use Rattle.std.specs.Prelude.{ℕ, Bool, true, false, not, ◌&&◌, ◌⊎◌, ℤ, Float, if◌then◌else◌}
+use Rattle.std.specs.Prelude.{ℕ, Bool, true, false, not, ◌&&◌, ◌⊎◌, ℤ, Float, if◌then◌else◌, Result, Ok, Err, ⊤}
 use Rattle.std.proofs.Common.{inl, inr}
 use Rattle.std.specs.Float.Ieee.{neg}
 use Rattle.f64_helpers.specs.F64.{◌⊖◌, ◌≤ᶠ◌, ◌≥ᶠ◌, decimal, zero}
@@ -18,10 +18,8 @@ use Rattle.air_box.specs.declared.Start.{Start}
 use Rattle.air_box.specs.declared.Start.TheVariants.{Plain, Quiet}
 use Rattle.air_box.specs.declared.AirBox.{AirBox}
 use Rattle.air_box.specs.declared.AirBoxStep.{AirBoxStep}
-use Rattle.air_box.specs.declared.Built.{Built}
-use Rattle.air_box.specs.declared.Built.TheVariants as Builts
-use Rattle.air_box.specs.declared.Answer.{Answer}
-use Rattle.air_box.specs.declared.Answer.TheVariants.{Accepted, Refused}
+use Rattle.air_box.specs.declared.BuildRefusal.{BuildRefusal}
+use Rattle.air_box.specs.declared.BuildRefusal.TheVariants.{DesignFlowOutOfRange}
 use Rattle.air_box.specs.declared.Refusal.{Refusal}
 use Rattle.air_box.specs.declared.Refusal.TheVariants.{
   NotWholeSeconds,
@@ -32,8 +30,6 @@ use Rattle.air_box.specs.declared.Refusal.TheVariants.{
   Co2OutOfRange,
   AirflowOutOfRange,
 }
-use Rattle.air_box.specs.declared.Verdict.{Verdict}
-use Rattle.air_box.specs.declared.Verdict.TheVariants.{Accept, Refuse}
 
 -- ---- document 01, 'Questions asked of a tick'
 
@@ -48,9 +44,9 @@ refusal_number Co2OutOfRange = 6
 refusal_number AirflowOutOfRange = 7
 
 -- What an answer is in document 01's words: the ten outputs, or the number.
-abbrev pub outputs_or_number : Answer → ControllerOutput ⊎ ℕ
-outputs_or_number (Accepted output) = inl output
-outputs_or_number (Refused reason) = inr (refusal_number reason)
+abbrev pub outputs_or_number : Result ControllerOutput Refusal → ControllerOutput ⊎ ℕ
+outputs_or_number (Ok output) = inl output
+outputs_or_number (Err reason) = inr (refusal_number reason)
 
 -- from low to high, the ends included; a NaN is not
 abbrev pub within : Float → Float → Float → Bool
@@ -86,16 +82,16 @@ yes Co2OutOfRange last k =
 yes AirflowOutOfRange last k = within k.input.discharge_airflow (neg (decimal 10 1)) (decimal 10 1)
 
 -- The seven questions in their order. The first "no" is the reason.
-unfoldable pub questions : OptionalTime → Tick → Verdict
+unfoldable pub questions : OptionalTime → Tick → Result ⊤ Refusal
 questions last k =
-    if not (yes NotWholeSeconds last k) then Refuse NotWholeSeconds
-    else (if not (yes TimeOutOfRange last k) then Refuse TimeOutOfRange
-    else (if not (yes BeforeLast last k) then Refuse BeforeLast
-    else (if not (yes TooLongAfterLast last k) then Refuse TooLongAfterLast
-    else (if not (yes TemperatureOutOfRange last k) then Refuse TemperatureOutOfRange
-    else (if not (yes Co2OutOfRange last k) then Refuse Co2OutOfRange
-    else (if not (yes AirflowOutOfRange last k) then Refuse AirflowOutOfRange
-    else Accept))))))
+    if not (yes NotWholeSeconds last k) then Err NotWholeSeconds
+    else (if not (yes TimeOutOfRange last k) then Err TimeOutOfRange
+    else (if not (yes BeforeLast last k) then Err BeforeLast
+    else (if not (yes TooLongAfterLast last k) then Err TooLongAfterLast
+    else (if not (yes TemperatureOutOfRange last k) then Err TemperatureOutOfRange
+    else (if not (yes Co2OutOfRange last k) then Err Co2OutOfRange
+    else (if not (yes AirflowOutOfRange last k) then Err AirflowOutOfRange
+    else Ok tt))))))
 
 -- ---- the box
 
@@ -119,13 +115,13 @@ accepted_tick box k =
     let step = controller_output box.state k.t k.input box.choices in
     record {
       state = record { state = step.state; last_time = At k.t; choices = box.choices };
-      answer = Accepted step.output;
+      answer = Ok step.output;
     }
 
 -- A refused tick gives the reason, and the box is the old one.
-abbrev pub decided : Verdict → AirBox → Tick → AirBoxStep
-decided Accept box k = accepted_tick box k
-decided (Refuse reason) box k = record { state = box; answer = Refused reason }
+abbrev pub decided : Result ⊤ Refusal → AirBox → Tick → AirBoxStep
+decided (Ok _) box k = accepted_tick box k
+decided (Err reason) box k = record { state = box; answer = Err reason }
 
 unfoldable pub tick : AirBox → Tick → AirBoxStep
 tick box k = decided (questions box.last_time k) box k
@@ -142,17 +138,21 @@ design_flows_within choices =
     within choices.design_cooling_maximum_flow (decimal 1 10) (decimal 10 1)
     && within choices.design_minimum_flow zero choices.design_cooling_maximum_flow
 
-unfoldable pub build : Choices → Built
-build choices = if design_flows_within choices then Builts.Box (unticked choices) else Builts.Refused
+unfoldable pub build : Choices → Result AirBox BuildRefusal
+build choices = if design_flows_within choices then Ok (unticked choices) else Err DesignFlowOutOfRange
 
-abbrev pub built_number : Built → ℕ
-built_number (Builts.Box box) = 0
-built_number Builts.Refused = 8
+-- document 02's number of the reason
+abbrev pub build_refusal_number : BuildRefusal → ℕ
+build_refusal_number DesignFlowOutOfRange = 8
+
+abbrev pub built_number : Result AirBox BuildRefusal → ℕ
+built_number (Ok box) = 0
+built_number (Err reason) = build_refusal_number reason
 
 -- What building gives in document 02's words: the box, or the number.
-abbrev pub box_or_number : Built → AirBox ⊎ ℕ
-box_or_number (Builts.Box box) = inl box
-box_or_number Builts.Refused = inr (built_number Builts.Refused)
+abbrev pub box_or_number : Result AirBox BuildRefusal → AirBox ⊎ ℕ
+box_or_number (Ok box) = inl box
+box_or_number (Err reason) = inr (build_refusal_number reason)
 
 -- ---- document 01, 'Desk code', in the order of document 02, N7: the leak comes first
 

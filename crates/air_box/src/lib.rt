@@ -7,6 +7,8 @@ ghost use Rattle.air_box.specs.AirBox as AirBoxes;
 use box_choices::Choices;
 use cdl_recurrences::OptionalTime;
 use cooling_only_controller::{ControllerInput, ControllerOutput, ControllerState};
+use std::error::Error;
+use std::fmt;
 
 // What a tick carries: its time in seconds, and the readings and settings.
 #[repr(C)]
@@ -17,7 +19,7 @@ pub struct Tick {
 }
 
 // The start choice, named when a box is built.
-#[derive(Clone, Copy)]
+#[derive(Clone, Copy, Debug, PartialEq, Eq)]
 pub enum Start {
     Plain,
     Quiet,
@@ -30,15 +32,14 @@ pub struct AirBox {
     pub choices: Choices,
 }
 
-// What building gives: the box, or a refusal where a design flow is out of its range.
-#[derive(Clone, Copy)]
-pub enum Built {
-    Box(AirBox),
-    Refused,
+// Why no box is built.
+#[derive(Clone, Copy, Debug, PartialEq, Eq)]
+pub enum BuildRefusal {
+    DesignFlowOutOfRange,
 }
 
 // Why a tick is refused: the question that got the first "no".
-#[derive(Clone, Copy)]
+#[derive(Clone, Copy, Debug, PartialEq, Eq)]
 pub enum Refusal {
     NotWholeSeconds,
     TimeOutOfRange,
@@ -50,11 +51,7 @@ pub enum Refusal {
 }
 
 // A tick's answer: the ten outputs, or the refusal.
-#[derive(Clone, Copy)]
-pub enum Answer {
-    Accepted(ControllerOutput),
-    Refused(Refusal),
-}
+pub type Answer = Result<ControllerOutput, Refusal>;
 
 #[derive(Clone, Copy)]
 pub struct AirBoxStep {
@@ -62,19 +59,12 @@ pub struct AirBoxStep {
     pub answer: Answer,
 }
 
-// What the questions decide.
-#[derive(Clone, Copy)]
-pub enum Verdict {
-    Accept,
-    Refuse(Refusal),
-}
+// Document 01's number of the reason.
+impl From<Refusal> for u8 {
+    ghost from_gives = { λ refusal number. number ≡ AirBoxes.refusal_number refusal };
 
-impl Refusal {
-    // Document 01's number of the reason.
-    pub fn number(self) -> u8
-        ensures { result ≡ AirBoxes.refusal_number self }
-    {
-        match self {
+    fn from(refusal: Refusal) -> u8 {
+        match refusal {
             Refusal::NotWholeSeconds => 1,
             Refusal::TimeOutOfRange => 2,
             Refusal::BeforeLast => 3,
@@ -86,27 +76,49 @@ impl Refusal {
     }
 }
 
+impl fmt::Display for Refusal {
+    fn fmt<W: fmt::Write>(&self, f: &mut fmt::Formatter<W>) -> fmt::Result {
+        f.write_str(match self {
+            Refusal::NotWholeSeconds => "the time is not a whole number of seconds",
+            Refusal::TimeOutOfRange => "the time is out of range",
+            Refusal::BeforeLast => "the time is before the last accepted one",
+            Refusal::TooLongAfterLast => "the time is more than 240 s after the last accepted one",
+            Refusal::TemperatureOutOfRange => "a temperature is out of range",
+            Refusal::Co2OutOfRange => "a CO2 reading or setpoint is out of range",
+            Refusal::AirflowOutOfRange => "the discharge airflow is out of range",
+        })
+    }
+}
+
+impl Error for Refusal {}
+
+// Document 02's number of the reason.
+impl From<BuildRefusal> for u8 {
+    ghost from_gives = { λ refusal number. number ≡ AirBoxes.build_refusal_number refusal };
+
+    fn from(refusal: BuildRefusal) -> u8 {
+        match refusal {
+            BuildRefusal::DesignFlowOutOfRange => 8,
+        }
+    }
+}
+
+impl fmt::Display for BuildRefusal {
+    fn fmt<W: fmt::Write>(&self, f: &mut fmt::Formatter<W>) -> fmt::Result {
+        f.write_str(match self {
+            BuildRefusal::DesignFlowOutOfRange => "a design flow is out of range",
+        })
+    }
+}
+
+impl Error for BuildRefusal {}
+
 impl Start {
     // Whether the true delays of system requests and alarms, all but the fan's arming, run with delay_on_init.
     pub fn delay_on_init(self) -> bool
         ensures { result ≡ AirBoxes.delay_on_init self }
     {
-        match self {
-            Start::Plain => false,
-            Start::Quiet => true,
-        }
-    }
-}
-
-impl Built {
-    // 0 for a box, and document 02's number of the refusal.
-    pub fn number(self) -> u8
-        ensures { result ≡ AirBoxes.built_number self }
-    {
-        match self {
-            Built::Box(_) => 0,
-            Built::Refused => 8,
-        }
+        matches!(self, Start::Quiet)
     }
 }
 
@@ -115,62 +127,67 @@ impl AirBox {
     pub fn fresh(start: Start) -> AirBox
         ensures { result ≡ AirBoxes.fresh_box start }
     {
-        let quiet = start.delay_on_init();
-        unticked(Choices::usual(quiet))
+        unticked(Choices::usual(start.delay_on_init()))
     }
 
     // A box that has had no tick, with the design flows and the reading that are wanted. What it was built with stays.
-    pub fn build(choices: Choices) -> Built
+    #[tactic(auto, unfolding(crate::specs::AirBox::build))]
+    pub fn build(choices: Choices) -> Result<AirBox, BuildRefusal>
         ensures { result ≡ AirBoxes.build choices }
     {
         if design_flows_within(choices) {
-            Built::Box(unticked(choices))
+            Ok(unticked(choices))
         } else {
-            Built::Refused
+            Err(BuildRefusal::DesignFlowOutOfRange)
         }
     }
 
     // One tick: a refused one gives its reason and leaves the box as it was.
+    #[tactic(auto, unfolding(crate::specs::AirBox::tick))]
     pub fn tick(self, tick: Tick) -> AirBoxStep
         ensures { result ≡ AirBoxes.tick self tick }
     {
-        let last_time = self.last_time;
-        let verdict = questions(last_time, tick);
-        match verdict {
-            Verdict::Refuse(reason) => AirBoxStep {
+        match questions(self.last_time, tick) {
+            Ok(()) => self.accepted(tick),
+            Err(reason) => AirBoxStep {
                 state: self,
-                answer: Answer::Refused(reason),
+                answer: Err(reason),
             },
-            Verdict::Accept => self.accepted(tick),
         }
     }
 
     // What becomes of a tick that no question refuses.
+    #[tactic(auto, unfolding(crate::specs::AirBox::accepted_tick))]
     fn accepted(self, tick: Tick) -> AirBoxStep
         ensures { result ≡ AirBoxes.accepted_tick self tick }
     {
-        let choices = self.choices;
-        let input = tick.input;
-        let step = self.state.output(tick.t, input, choices);
-        let state = step.state;
-        let output = step.output;
+        let step = self.state.output(tick.t, tick.input, self.choices);
         AirBoxStep {
             state: AirBox {
-                state,
+                state: step.state,
                 last_time: OptionalTime::At(tick.t),
-                choices,
+                ..self
             },
-            answer: Answer::Accepted(output),
+            answer: Ok(step.output),
         }
+    }
+}
+
+// The number of what building gives: 0 for a box, and that of the reason where none is built.
+pub fn built_number(built: Result<AirBox, BuildRefusal>) -> u8
+    ensures { result ≡ AirBoxes.built_number built }
+{
+    match built {
+        Ok(_) => 0,
+        Err(refusal) => refusal.into(),
     }
 }
 
 fn unticked(choices: Choices) -> AirBox
     ensures { result ≡ AirBoxes.unticked choices }
 {
-    let state = ControllerState::fresh();
     AirBox {
-        state,
+        state: ControllerState::fresh(),
         last_time: OptionalTime::Absent,
         choices,
     }
@@ -185,33 +202,33 @@ fn design_flows_within(choices: Choices) -> bool
 }
 
 // The seven questions, in order: the first "no" is the reason.
-pub fn questions(last_time: OptionalTime, tick: Tick) -> Verdict
+pub fn questions(last_time: OptionalTime, tick: Tick) -> Result<(), Refusal>
     ensures { result ≡ AirBoxes.questions last_time tick }
 {
     let t = tick.t;
     let input = tick.input;
     if !f64_helpers::is_whole(t) {
-        return Verdict::Refuse(Refusal::NotWholeSeconds);
+        return Err(Refusal::NotWholeSeconds);
     }
     if !within(t, 0.0, 2147483648.0) {
-        return Verdict::Refuse(Refusal::TimeOutOfRange);
+        return Err(Refusal::TimeOutOfRange);
     }
     if !at_or_after(last_time, t) {
-        return Verdict::Refuse(Refusal::BeforeLast);
+        return Err(Refusal::BeforeLast);
     }
     if !soon_after(last_time, t) {
-        return Verdict::Refuse(Refusal::TooLongAfterLast);
+        return Err(Refusal::TooLongAfterLast);
     }
     if !temperatures_within(input) {
-        return Verdict::Refuse(Refusal::TemperatureOutOfRange);
+        return Err(Refusal::TemperatureOutOfRange);
     }
     if !(within(input.co2_setpoint, 0.0, 10000.0) & within(input.co2_concentration, 0.0, 10000.0)) {
-        return Verdict::Refuse(Refusal::Co2OutOfRange);
+        return Err(Refusal::Co2OutOfRange);
     }
     if !within(input.discharge_airflow, -10.0, 10.0) {
-        return Verdict::Refuse(Refusal::AirflowOutOfRange);
+        return Err(Refusal::AirflowOutOfRange);
     }
-    Verdict::Accept
+    Ok(())
 }
 
 // Whether x lies from low to high, the ends included. A NaN does not.
@@ -250,18 +267,15 @@ fn temperatures_within(input: ControllerInput) -> bool
 }
 
 // One number from the three alarms, by the first rule that fits. The leak comes first: the fitter is wanted at the damper, also where the airflow is low.
+#[tactic(auto, unfolding(crate::specs::AirBox::desk_code))]
 pub fn desk_code(low_airflow: i64, airflow_sensor: i64, leaking_damper: i64) -> u8
     ensures { result ≡ AirBoxes.desk_code low_airflow airflow_sensor leaking_damper }
 {
-    if leaking_damper == 4 {
-        34
-    } else if low_airflow == 2 {
-        12
-    } else if low_airflow == 3 {
-        13
-    } else if airflow_sensor == 3 {
-        23
-    } else {
-        0
+    match (low_airflow, airflow_sensor, leaking_damper) {
+        (_, _, 4) => 34,
+        (2, _, _) => 12,
+        (3, _, _) => 13,
+        (_, 3, _) => 23,
+        _ => 0,
     }
 }

@@ -1,5 +1,5 @@
 -- Document 01's bench cases a to k, each as what the definitions give beside what it should be.
-use Rattle.std.specs.Prelude.{◌≡◌, List, [], ◌∷◌, ◌++◌, ℕ, ◌*◌, length, replicate, Bool, true, false, ℤ, pos, negsuc, Float}
+use Rattle.std.specs.Prelude.{◌≡◌, List, [], ◌∷◌, ◌++◌, ℕ, ◌*◌, length, replicate, Bool, true, false, ℤ, pos, negsuc, Float, Result, Ok, Err}
 use Rattle.std.specs.Float.Ieee.{neg}
 use Rattle.f64_helpers.specs.F64.{decimal, zero}
 use Rattle.box_choices.specs.BoxChoices.{usual}
@@ -19,9 +19,9 @@ use Rattle.cooling_only_controller_airflow.specs.declared.AlarmsState.{AlarmsSta
 use Rattle.air_box.specs.AirBox.{tick, fresh_box}
 use Rattle.air_box.specs.BenchTick.{bench_tick}
 use Rattle.air_box.specs.declared.Tick.{Tick}
+use Rattle.cooling_only_controller.specs.declared.ControllerOutput.{ControllerOutput}
+use Rattle.air_box.specs.declared.Refusal.{Refusal}
 use Rattle.air_box.specs.declared.Start.TheVariants.{Plain}
-use Rattle.air_box.specs.declared.Answer.{Answer}
-use Rattle.air_box.specs.declared.Answer.TheVariants.{Accepted, Refused}
 
 -- what a case gives: a flag, an f64, an integer, or an f64 that depends on another
 pub data Value : Type 0 where
@@ -125,9 +125,9 @@ abbrev tick_k : Tick
 tick_k = bench_tick (decimal 75 100) (pos 2) (pos 0) true
 
 -- the damper command of an answer; a refusal has none, for which -1.0 stands
-abbrev damper_command : Answer → Value
-damper_command (Accepted output) = number output.damper_command
-damper_command (Refused reason) = number (neg (decimal 1 1))
+abbrev damper_command : Result ControllerOutput Refusal → Value
+damper_command (Ok output) = number output.damper_command
+damper_command (Err reason) = number (neg (decimal 1 1))
 
 abbrev pub cases : List Case
 cases =

@@ -3,6 +3,7 @@
 use mathlib.Core.Path.{◌≡◌, refl, sym, subst}
 use mathlib.Core.Logic.{inl, inr}
 use mathlib.Core.List.{List, [], ◌∷◌}
+use Rattle.std.specs.Prelude.{Err}
 use Rattle.box_choices.specs.declared.Choices.{Choices}
 use Rattle.cdl_recurrences.specs.DeadBand.{Related}
 use Rattle.cdl_recurrences.specs.declared.OptionalTime.{OptionalTime}
@@ -12,7 +13,6 @@ use Rattle.air_box.specs.Demand2.{controller_step_of}
 use Rattle.air_box.specs.declared.Tick.{Tick}
 use Rattle.air_box.specs.declared.AirBox.{AirBox}
 use Rattle.air_box.specs.declared.AirBoxStep.{AirBoxStep}
-use Rattle.air_box.specs.declared.Answer.TheVariants.{Refused}
 use Rattle.air_box.specs.declared.Refusal.{Refusal}
 use Rattle.air_box.proofs.Demands.{tick_accepted, tick_refused, by_verdict}
 use Rattle.nights.specs.Nights.{NightStep, steps_by, steps, Along, Shown, shown}
@@ -38,7 +38,7 @@ grown_choices choices (k ∷ h) = grown_choices choices h
 pub grown_accepts : (choices : Choices) (h : List Tick) (k : Tick) → AllYes (newest_time h) k → tick (grown choices h) k ≡ accepted_tick (grown choices h) k
 grown_accepts choices h k all = tick_accepted (grown choices h) k (subst (λ (last : OptionalTime). AllYes last k) (sym (grown_last choices h)) all)
 
-pub grown_refuses : (choices : Choices) (h : List Tick) (k : Tick) (reason : Refusal) → FirstNo reason (newest_time h) k → tick (grown choices h) k ≡ record { state = grown choices h; answer = Refused reason }
+pub grown_refuses : (choices : Choices) (h : List Tick) (k : Tick) (reason : Refusal) → FirstNo reason (newest_time h) k → tick (grown choices h) k ≡ record { state = grown choices h; answer = Err reason }
 grown_refuses choices h k reason first = tick_refused (grown choices h) k reason (subst (λ (last : OptionalTime). FirstNo reason last k) (sym (grown_last choices h)) first)
 
 -- a step of a night, by what the box's tick gives
@@ -78,7 +78,7 @@ shown_after choices h (k ∷ ks) =
 pub record Grows (ticked : AirBox → Tick → AirBoxStep) (after : List Tick → AirBox) (step : List Tick → Tick → AirBoxStep) : Type 0 where
   pub next : (h : List Tick) (k : Tick) → (step h k).state ≡ after (k ∷ h)
   pub accepts : (h : List Tick) (k : Tick) → AllYes (newest_time h) k → ticked (after h) k ≡ step h k
-  pub refuses : (h : List Tick) (k : Tick) (reason : Refusal) → FirstNo reason (newest_time h) k → ticked (after h) k ≡ record { state = after h; answer = Refused reason }
+  pub refuses : (h : List Tick) (k : Tick) (reason : Refusal) → FirstNo reason (newest_time h) k → ticked (after h) k ≡ record { state = after h; answer = Err reason }
 
 -- the box of today, by what was chosen when it was built
 pub grows : (choices : Choices) → Grows tick (grown choices) (λ h k. accepted_tick (grown choices h) k)

@@ -1,6 +1,6 @@
 -- N13. Building by its two ranges; a tick by its verdict; the definitions with 0.5 and 1.5 in them are those of today at the usual choices. Assumes nothing.
-use mathlib.Core.Path.{◌≡◌, refl, sym, ap, ◌∙◌, subst}
-use mathlib.Core.Logic.{◌↔◌, ◌⊎◌, inl, inr, ⊎_elim}
+use mathlib.Core.Path.{◌≡◌, refl, sym, ap, ◌∙◌}
+use mathlib.Core.Logic.{◌↔◌, ◌⊎◌, inl, inr}
 use mathlib.Core.List.{List, [], ◌∷◌, map}
 use Prim.Native.Nat.{ℕ}
 use mathlib.Core.Bool.{Bool, true, false, not, ◌&&◌}
@@ -8,7 +8,7 @@ use lib.Dec.{T, T_not, not_T}
 use lib.Ieee.{Float, round, le, neg}
 use lib.Ieee.Fits.{and_i, and_l, and_r}
 use Rattle.f64_helpers.specs.F64.{◌⊖◌, ◌<ᶠ◌, ◌≤ᶠ◌, ◌≥ᶠ◌, decimal, zero}
-use Rattle.std.specs.Prelude.{if◌then◌else◌}
+use Rattle.std.specs.Prelude.{if◌then◌else◌, Result, Ok, Err, ⊤}
 use Rattle.f64_helpers.proofs.Order.{lt→le, not_both, number_at_most}
 use Rattle.f64_helpers.proofs.Sums.{above_lowered}
 use Rattle.box_choices.specs.BoxChoices.{chosen, usual}
@@ -23,9 +23,8 @@ use Rattle.air_box.specs.AirBox.{delay_on_init, questions, unticked, design_flow
 use Rattle.air_box.specs.declared.Tick.{Tick}
 use Rattle.air_box.specs.declared.AirBox.{AirBox}
 use Rattle.air_box.specs.declared.AirBoxStep.{AirBoxStep}
-use Rattle.air_box.specs.declared.Built.TheVariants as Builts
-use Rattle.air_box.specs.declared.Verdict.{Verdict}
-use Rattle.air_box.specs.declared.Verdict.TheVariants.{Accept, Refuse}
+use Rattle.air_box.specs.declared.BuildRefusal.TheVariants.{DesignFlowOutOfRange}
+use Rattle.air_box.specs.declared.Refusal.{Refusal}
 use Rattle.nights.specs.Nights.{steps, box_after}
 use Rattle.nights.specs.Demand3.{H}
 use Rattle.nights.specs.FixedSizes.{fixed_setpoints, fixed_active_airflow, fixed_damper, fixed_system_requests, fixed_alarms, fixed_controller_output, FixedBox, FixedBoxStep, fixed_fresh_box, fixed_decided, fixed_tick, fixed_given}
@@ -49,21 +48,18 @@ in_range quiet minimum maximum second_reading =
 
 -- what building gives, by whether the design flows are in their ranges
 abbrev by_ranges : Bool → Choices → AirBox ⊎ ℕ
-by_ranges b choices = box_or_number (if b then Builts.Box (unticked choices) else Builts.Refused)
+by_ranges b choices = box_or_number (if b then Ok (unticked choices) else Err DesignFlowOutOfRange)
 
 build_by_ranges : (choices : Choices) → box_or_number (build choices) ≡ by_ranges (design_flows_within choices) choices
 unfolding build
 build_by_ranges choices = refl
 
-no_box : (box : AirBox) (n : ℕ) → ◌≡◌ {A = AirBox ⊎ ℕ} (inl box) (inr n) → ⊥
-no_box box n e = subst {A = AirBox ⊎ ℕ} (λ x. ⊎_elim (λ b. Unit) (λ m. ⊥) x) e tt
-
 refused_if : (b : Bool) (choices : Choices) → (by_ranges b choices ≡ inr 8) ↔ T (not b)
-refused_if true choices = (λ e. no_box (unticked choices) 8 e, λ t. absurd t)
+refused_if true choices = (λ e. cc, λ t. absurd t)
 refused_if false choices = (λ e. tt, λ t. refl)
 
 number_8 : (b : Bool) (choices : Choices) (n : ℕ) → by_ranges b choices ≡ inr n → n ≡ 8
-number_8 true choices n e = absurd (no_box (unticked choices) n e)
+number_8 true choices n e = cc
 number_8 false choices n e = cc
 
 built_if : (b : Bool) (choices : Choices) → T b → by_ranges b choices ≡ inl (unticked choices)
@@ -95,10 +91,10 @@ building =
 
 -- ---- a box keeps what it was built with
 
-decided_keeps : (v : Verdict) (box : AirBox) (k : Tick) → (decided v box k).state.choices ≡ box.choices
+decided_keeps : (v : Result ⊤ Refusal) (box : AirBox) (k : Tick) → (decided v box k).state.choices ≡ box.choices
 unfolding accepted_tick
-decided_keeps Accept box k = refl
-decided_keeps (Refuse reason) box k = refl
+decided_keeps (Ok _) box k = refl
+decided_keeps (Err reason) box k = refl
 
 tick_keeps : (box : AirBox) (k : Tick) → (tick box k).state.choices ≡ box.choices
 unfolding tick
@@ -118,10 +114,10 @@ controller_is s t input quiet = refl
 abbrev step_of : FixedBoxStep → AirBoxStep
 step_of s = record { state = of_fixed s.state; answer = s.answer }
 
-decided_is : (v : Verdict) (box : FixedBox) (k : Tick) → decided v (of_fixed box) k ≡ step_of (fixed_decided v box k)
+decided_is : (v : Result ⊤ Refusal) (box : FixedBox) (k : Tick) → decided v (of_fixed box) k ≡ step_of (fixed_decided v box k)
 unfolding accepted_tick
-decided_is Accept box k = rw (controller_is box.state k.t k.input (delay_on_init box.start))
-decided_is (Refuse reason) box k = refl
+decided_is (Ok _) box k = rw (controller_is box.state k.t k.input (delay_on_init box.start))
+decided_is (Err reason) box k = refl
 
 tick_is : (box : FixedBox) (k : Tick) → tick (of_fixed box) k ≡ step_of (fixed_tick box k)
 unfolding tick

@@ -3,6 +3,7 @@ use mathlib.Core.Path.{◌≡◌, refl, sym, ap, ◌∙◌, subst}
 use mathlib.Core.List.{List, [], ◌∷◌}
 use mathlib.Core.Bool.{false}
 use lib.Ieee.{Float, round, neg, sub, add, mul, lt, le, eq, is_nan}
+use Rattle.std.specs.Prelude.{Result, Ok, Err, ⊤}
 use Rattle.f64_helpers.specs.F64.{decimal}
 use Rattle.f64_helpers.specs.Helpers.{max}
 use Rattle.f64_helpers.proofs.Tests.{and_false}
@@ -23,10 +24,7 @@ use Rattle.air_box.specs.Demand2.{controller_step_of}
 use Rattle.air_box.specs.declared.Tick.{Tick}
 use Rattle.air_box.specs.declared.AirBox.{AirBox}
 use Rattle.air_box.specs.declared.AirBoxStep.{AirBoxStep}
-use Rattle.air_box.specs.declared.Answer.TheVariants.{Refused}
 use Rattle.air_box.specs.declared.Refusal.{Refusal}
-use Rattle.air_box.specs.declared.Verdict.{Verdict}
-use Rattle.air_box.specs.declared.Verdict.TheVariants.{Accept, Refuse}
 use Rattle.air_box.proofs.Demands.{questions_accept, questions_refuse, by_verdict}
 use Rattle.nights.specs.Nights.{NightStep, steps, box_after, fan}
 use Rattle.nights.specs.AlarmsStage.{controller_with, accepted_with, decided_with, tick_with}
@@ -46,10 +44,10 @@ ArmsAlike box k =
     let arming = box.state.alarms.fan_armed in
     true_delay arming k.t (fan k) (decimal 1800 1) false ≡ true_delay arming k.t (fan k) (decimal 1800 1) box.choices.quiet
 
-decided_alike : (v : Verdict) (box : AirBox) (k : Tick) → ArmsAlike box k → decided v box k ≡ decided_with old_alarms v box k
+decided_alike : (v : Result ⊤ Refusal) (box : AirBox) (k : Tick) → ArmsAlike box k → decided v box k ≡ decided_with old_alarms v box k
 unfolding accepted_tick accepted_with controller_output alarms alarms_armed
-decided_alike Accept box k e = rw e
-decided_alike (Refuse reason) box k e = refl
+decided_alike (Ok _) box k e = rw e
+decided_alike (Err reason) box k e = refl
 
 tick_alike : (box : AirBox) (k : Tick) → ArmsAlike box k → tick box k ≡ old_tick box k
 unfolding tick tick_with
@@ -66,9 +64,9 @@ accepted_ticked : (box : AirBox) (k : Tick) → HasTicked (accepted_tick box k).
 unfolding accepted_tick controller_output alarms true_delay
 accepted_ticked box k = (k.t, refl)
 
-still_ticked : (v : Verdict) (box : AirBox) (k : Tick) → HasTicked box → HasTicked (decided v box k).state
-still_ticked Accept box k e = accepted_ticked box k
-still_ticked (Refuse reason) box k e = e
+still_ticked : (v : Result ⊤ Refusal) (box : AirBox) (k : Tick) → HasTicked box → HasTicked (decided v box k).state
+still_ticked (Ok _) box k e = accepted_ticked box k
+still_ticked (Err reason) box k e = e
 
 -- two nights go on alike after a tick that is alike
 steps_from : (new old : AirBox) (k : Tick) (rest : List Tick) → tick new k ≡ old_tick old k → steps (tick new k).state rest ≡ old_steps (tick new k).state rest
@@ -228,7 +226,7 @@ old_accepts : (choices : Choices) (h : List Tick) (k : Tick) → AllYes (newest_
 unfolding tick_with
 old_accepts choices h k all = rw (old_last choices h, (questions_accept (newest_time h) k).1 all)
 
-old_refuses : (choices : Choices) (h : List Tick) (k : Tick) (reason : Refusal) → FirstNo reason (newest_time h) k → old_tick (old_grown choices h) k ≡ record { state = old_grown choices h; answer = Refused reason }
+old_refuses : (choices : Choices) (h : List Tick) (k : Tick) (reason : Refusal) → FirstNo reason (newest_time h) k → old_tick (old_grown choices h) k ≡ record { state = old_grown choices h; answer = Err reason }
 unfolding tick_with
 old_refuses choices h k reason first = rw (old_last choices h, (questions_refuse (newest_time h) k reason).1 first)
 

@@ -5,6 +5,7 @@ use mathlib.Core.Bool.{Bool, true, false}
 use lib.Dec.{T}
 use lib.Ieee.{Float, round, neg, sub, add, mul, lt, le, eq, is_nan}
 use lib.Ieee.Fits.{and_i, and_l, and_r}
+use Rattle.std.specs.Prelude.{Result, Ok, Err, ⊤}
 use Rattle.f64_helpers.specs.F64.{decimal}
 use Rattle.f64_helpers.specs.Helpers.{max}
 use Rattle.box_choices.specs.BoxChoices.{chosen}
@@ -17,14 +18,12 @@ use Rattle.cooling_only_controller_airflow.specs.Airflow.{damper, system_request
 use Rattle.cooling_only_controller_airflow.specs.declared.AlarmInput.{AlarmInput}
 use Rattle.cooling_only_controller_airflow.specs.declared.AlarmsState.{AlarmsState}
 use Rattle.cooling_only_controller.specs.Controller.{controller_output}
+use Rattle.cooling_only_controller.specs.declared.ControllerOutput.{ControllerOutput}
 use Rattle.air_box.specs.AirBox.{questions, unticked, decided, accepted_tick, tick, outputs_or_number}
 use Rattle.air_box.specs.declared.Tick.{Tick}
 use Rattle.air_box.specs.declared.AirBox.{AirBox}
 use Rattle.air_box.specs.declared.AirBoxStep.{AirBoxStep}
-use Rattle.air_box.specs.declared.Answer.{Answer}
-use Rattle.air_box.specs.declared.Answer.TheVariants.{Accepted, Refused}
-use Rattle.air_box.specs.declared.Verdict.{Verdict}
-use Rattle.air_box.specs.declared.Verdict.TheVariants.{Accept, Refuse}
+use Rattle.air_box.specs.declared.Refusal.{Refusal}
 use Rattle.nights.specs.Nights.{NightStep, steps}
 use Rattle.nights.specs.Demand3.{H}
 use Rattle.nights.specs.AlarmsStage.{accepted_with, decided_with, tick_with}
@@ -44,10 +43,10 @@ stage_untouched : (s : AlarmsState) (t : Float) (input : AlarmInput) (choices : 
 unfolding alarms one_reading_alarms
 stage_untouched s t input choices first = rw first
 
-decided_untouched : (v : Verdict) (box : AirBox) (k : Tick) → box.choices.second_reading ≡ false → decided v box k ≡ decided_with one_reading_alarms v box k
+decided_untouched : (v : Result ⊤ Refusal) (box : AirBox) (k : Tick) → box.choices.second_reading ≡ false → decided v box k ≡ decided_with one_reading_alarms v box k
 unfolding accepted_tick accepted_with controller_output
-decided_untouched Accept box k first = rw (stage_untouched _ k.t _ box.choices first)
-decided_untouched (Refuse reason) box k first = refl
+decided_untouched (Ok _) box k first = rw (stage_untouched _ k.t _ box.choices first)
+decided_untouched (Err reason) box k first = refl
 
 first_untouched : FirstUntouched
 unfolding tick tick_with
@@ -56,10 +55,10 @@ first_untouched = record { stage = stage_untouched; every_tick = λ box k. decid
 -- ---- the second is equal but for the alarm and its delay
 
 -- a tick of what is left of a box leaves the same
-decided_but : (v : Verdict) (box : AirBox) (k : Tick) → step_but (decided v (box_but box) k) ≡ step_but (decided v box k)
+decided_but : (v : Result ⊤ Refusal) (box : AirBox) (k : Tick) → step_but (decided v (box_but box) k) ≡ step_but (decided v box k)
 unfolding accepted_tick controller_output setpoints active_airflow damper system_requests alarms
-decided_but Accept box k = refl
-decided_but (Refuse reason) box k = refl
+decided_but (Ok _) box k = refl
+decided_but (Err reason) box k = refl
 
 tick_but : (box : AirBox) (k : Tick) → step_but (tick (box_but box) k) ≡ step_but (tick box k)
 unfolding tick
@@ -70,9 +69,9 @@ every_tick second first k same = sym (tick_but second k) ∙ ap (λ (box : AirBo
 
 -- ---- and so along a night
 
-given_is : (a : Answer) → given_but (outputs_or_number a) ≡ outputs_or_number (answer_but a)
-given_is (Accepted output) = refl
-given_is (Refused reason) = refl
+given_is : (a : Result ControllerOutput Refusal) → given_but (outputs_or_number a) ≡ outputs_or_number (answer_but a)
+given_is (Ok output) = refl
+given_is (Err reason) = refl
 
 nights_but : (second first : AirBox) (ks : List Tick) → box_but second ≡ box_but first → map night_step_but (steps second ks) ≡ map night_step_but (steps first ks)
 nights_but second first [] same = refl

@@ -2,7 +2,6 @@
 use mathlib.Core.Path.{◌≡◌, refl}
 use mathlib.Core.Logic.{◌↔◌, ◌⊎◌}
 use mathlib.Core.List.{List, [], ◌∷◌}
-use Prim.Native.Nat.{ℕ}
 use native.Mathlib.Omega.{arith}
 use mathlib.Core.Bool.{Bool, true, false, not, ◌&&◌}
 use lib.IntN.{ℤ, pos}
@@ -93,7 +92,7 @@ alarm_by_memories choices h k = rw (held_is_output, sensor_delay_kept choices h,
 
 three_if : (b : Bool) → ((if b then pos 3 else pos 0) ≡ pos 3) ↔ T b
 three_if true = (λ e. tt, λ t. refl)
-three_if false = (λ e. let z : ◌≡◌ {A = ℕ} 0 1 = cc in omega arith, λ t. absurd t)
+three_if false = (λ e. cc, λ t. absurd t)
 
 -- it is 3 exactly if the mode is 1 and the alarm is on; else it is 0
 pub alarm_is_three : (choices : Choices) (h : List Tick) (k : Tick) → (alarm_at choices h k ≡ pos 3) ↔ ((mode k ≡ pos 1) × T (sensor_on_after choices (k ∷ h)))

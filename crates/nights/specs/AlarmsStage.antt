@@ -1,6 +1,6 @@
 -- The box with another alarms stage in place of its own, for claims that set an old stage beside that of today.
 -- `OnePlace` of QuietStart.antt says that with `alarms` itself it is the controller of today.
-use Rattle.std.specs.Prelude.{Float}
+use Rattle.std.specs.Prelude.{Float, Result, Ok, Err, ⊤}
 use Rattle.box_choices.specs.declared.Choices.{Choices}
 use Rattle.cdl_recurrences.specs.declared.OptionalTime.TheVariants.{At}
 use Rattle.cooling_only_controller_airflow.specs.declared.AlarmInput.{AlarmInput}
@@ -12,11 +12,9 @@ use Rattle.cooling_only_controller.specs.declared.ControllerState.{ControllerSta
 use Rattle.cooling_only_controller.specs.declared.ControllerStep.{ControllerStep}
 use Rattle.air_box.specs.AirBox.{questions}
 use Rattle.air_box.specs.declared.Tick.{Tick}
+use Rattle.air_box.specs.declared.Refusal.{Refusal}
 use Rattle.air_box.specs.declared.AirBox.{AirBox}
 use Rattle.air_box.specs.declared.AirBoxStep.{AirBoxStep}
-use Rattle.air_box.specs.declared.Answer.TheVariants.{Accepted, Refused}
-use Rattle.air_box.specs.declared.Verdict.{Verdict}
-use Rattle.air_box.specs.declared.Verdict.TheVariants.{Accept, Refuse}
 
 -- an alarms stage
 abbrev pub AlarmsStage : Type 0
@@ -63,12 +61,12 @@ accepted_with stage box k =
     let step = controller_with stage box.state k.t k.input box.choices in
     record {
       state = record { state = step.state; last_time = At k.t; choices = box.choices };
-      answer = Accepted step.output;
+      answer = Ok step.output;
     }
 
-abbrev pub decided_with : AlarmsStage → Verdict → AirBox → Tick → AirBoxStep
-decided_with stage Accept box k = accepted_with stage box k
-decided_with stage (Refuse reason) box k = record { state = box; answer = Refused reason }
+abbrev pub decided_with : AlarmsStage → Result ⊤ Refusal → AirBox → Tick → AirBoxStep
+decided_with stage (Ok _) box k = accepted_with stage box k
+decided_with stage (Err reason) box k = record { state = box; answer = Err reason }
 
 unfoldable pub tick_with : AlarmsStage → AirBox → Tick → AirBoxStep
 tick_with stage box k = decided_with stage (questions box.last_time k) box k

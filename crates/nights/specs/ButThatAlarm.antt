@@ -1,6 +1,6 @@
 -- What is left of outputs, of a state, of a box, of a step and of a night without the airflow sensor alarm, its delay and the choice of its
 -- reading: each has a fixed value in their place, and every other field as it is. They stand for the claim of SecondReading.antt alone.
-use Rattle.std.specs.Prelude.{◌⊎◌, ℕ, false, pos}
+use Rattle.std.specs.Prelude.{◌⊎◌, ℕ, false, pos, Result, Ok, Err}
 use Rattle.std.proofs.Common.{inl, inr}
 use Rattle.box_choices.specs.BoxChoices.{chosen}
 use Rattle.cooling_only_controller_timing.specs.Timing.{fresh_true_delay}
@@ -8,9 +8,8 @@ use Rattle.cooling_only_controller_airflow.specs.declared.AlarmsState.{AlarmsSta
 use Rattle.cooling_only_controller.specs.declared.ControllerOutput.{ControllerOutput}
 use Rattle.cooling_only_controller.specs.declared.ControllerState.{ControllerState}
 use Rattle.air_box.specs.declared.AirBox.{AirBox}
+use Rattle.air_box.specs.declared.Refusal.{Refusal}
 use Rattle.air_box.specs.declared.AirBoxStep.{AirBoxStep}
-use Rattle.air_box.specs.declared.Answer.{Answer}
-use Rattle.air_box.specs.declared.Answer.TheVariants.{Accepted, Refused}
 use Rattle.nights.specs.Nights.{NightStep}
 
 abbrev pub output_but : ControllerOutput → ControllerOutput
@@ -65,9 +64,9 @@ box_but box =
       choices = chosen c.quiet c.design_minimum_flow c.design_cooling_maximum_flow false;
     }
 
-abbrev pub answer_but : Answer → Answer
-answer_but (Accepted output) = Accepted (output_but output)
-answer_but (Refused reason) = Refused reason
+abbrev pub answer_but : Result ControllerOutput Refusal → Result ControllerOutput Refusal
+answer_but (Ok output) = Ok (output_but output)
+answer_but (Err reason) = Err reason
 
 abbrev pub step_but : AirBoxStep → AirBoxStep
 step_but s = record { state = box_but s.state; answer = answer_but s.answer }

@@ -1,7 +1,7 @@
 -- The box as it was before document 02's N13: its design flows are fixed at 0.5 and 1.5. These are the definitions of then, word for word
 -- but for the names, and they stand for the claim of OtherSizes.antt alone. What took neither a design flow nor the start is that of today:
 -- `time_suppression`, `control_loops`, `zone_states` and the blocks below the stages.
-use Rattle.std.specs.Prelude.{Bool, false, not, ◌&&◌, ◌||◌, List, [], ◌∷◌, ◌⊎◌, ℕ, ℤ, pos, Float, if◌then◌else◌}
+use Rattle.std.specs.Prelude.{Bool, false, not, ◌&&◌, ◌||◌, List, [], ◌∷◌, ◌⊎◌, ℕ, ℤ, pos, Float, if◌then◌else◌, Result, Ok, Err, ⊤}
 use Rattle.std.specs.Int.Signed.{le_z}
 use Rattle.f64_helpers.specs.F64.{◌⊕◌, ◌⊖◌, ◌⊗◌, ◌⊘◌, decimal, zero}
 use Rattle.f64_helpers.specs.Integers.{◌==ᶻ◌}
@@ -33,11 +33,8 @@ use Rattle.cooling_only_controller.specs.declared.ControllerState.{ControllerSta
 use Rattle.cooling_only_controller.specs.declared.ControllerStep.{ControllerStep}
 use Rattle.air_box.specs.AirBox.{delay_on_init, questions, outputs_or_number}
 use Rattle.air_box.specs.declared.Tick.{Tick}
+use Rattle.air_box.specs.declared.Refusal.{Refusal}
 use Rattle.air_box.specs.declared.Start.{Start}
-use Rattle.air_box.specs.declared.Answer.{Answer}
-use Rattle.air_box.specs.declared.Answer.TheVariants.{Accepted, Refused}
-use Rattle.air_box.specs.declared.Verdict.{Verdict}
-use Rattle.air_box.specs.declared.Verdict.TheVariants.{Accept, Refuse}
 
 -- ---- the two constants
 
@@ -293,7 +290,7 @@ pub record FixedBox : Type 0 where
 
 pub record FixedBoxStep : Type 0 where
   pub state : FixedBox
-  pub answer : Answer
+  pub answer : Result ControllerOutput Refusal
 
 abbrev pub fixed_fresh_box : Start → FixedBox
 fixed_fresh_box start = record { state = fresh_controller; last_time = Absent; start = start }
@@ -303,12 +300,12 @@ fixed_accepted_tick box k =
     let step = fixed_controller_output box.state k.t k.input (delay_on_init box.start) in
     record {
       state = record { state = step.state; last_time = At k.t; start = box.start };
-      answer = Accepted step.output;
+      answer = Ok step.output;
     }
 
-abbrev pub fixed_decided : Verdict → FixedBox → Tick → FixedBoxStep
-fixed_decided Accept box k = fixed_accepted_tick box k
-fixed_decided (Refuse reason) box k = record { state = box; answer = Refused reason }
+abbrev pub fixed_decided : Result ⊤ Refusal → FixedBox → Tick → FixedBoxStep
+fixed_decided (Ok _) box k = fixed_accepted_tick box k
+fixed_decided (Err reason) box k = record { state = box; answer = Err reason }
 
 abbrev pub fixed_tick : FixedBox → Tick → FixedBoxStep
 fixed_tick box k = fixed_decided (questions box.last_time k) box k

@@ -1,7 +1,8 @@
 -- `air_box::soon_after` meets its contract. Assumes nothing.
+use Rattle.std.proofs.Common.{rules}
 use lib.Ieee.{of_bits, round}
 use Rattle.air_box.proofs.soon_after.Goals as goal
 
 pub returns-in-At : goal.returns-in-At
 unfolding of_bits round
-returns-in-At c = rw c.in-At.is
+returns-in-At c = search rules
