@@ -1,7 +1,7 @@
 -- Demands 1 and 2, from the order in which `questions` asks. The laws of the questions (`questions_accept`, `questions_refuse`, `accepted_time`) and of a tick by its verdict (`tick_accepted`, `tick_refused`) serve the claims about nights too. Assumes nothing.
 use mathlib.Core.Path.{◌≡◌, refl, sym, ap, ◌∙◌, subst}
 use mathlib.Core.Logic.{◌↔◌, ◌⊎◌, inl, inr}
-use Rattle.std.specs.Prelude.{Result, Ok, Err, ⊤}
+use Rattle.std.specs.Prelude.{Float, Option, Result, Ok, Err, ⊤}
 use Prim.Native.Nat.{ℕ, ◌+◌, ◌<◌, ◌≤◌}
 use native.Mathlib.Omega.{arith}
 use mathlib.Core.Bool.{Bool, true, false, not, cond}
@@ -9,7 +9,6 @@ use lib.Dec.{T, ltb, eqb, ltb→lt, nltb→le, lit<}
 use lib.Ieee.Bits.{is_true, is_false}
 use Rattle.f64_helpers.specs.Seconds.{IsTime}
 use Rattle.f64_helpers.proofs.Times.{time_of_whole}
-use Rattle.cdl_recurrences.specs.declared.OptionalTime.{OptionalTime}
 use Rattle.cooling_only_controller.specs.declared.ControllerOutput.{ControllerOutput}
 use Rattle.air_box.specs.AirBox.{yes, questions, accepted_tick, tick, given_for, refusal_number, outputs_or_number}
 use Rattle.air_box.specs.Demand1.{AllYes, FirstNo, Demand1}
@@ -33,7 +32,7 @@ verdict b =
     (cond (not (b AirflowOutOfRange)) (Err AirflowOutOfRange)
     (Ok tt)))))))
 
-questions_are : (last : OptionalTime) (k : Tick) → questions last k ≡ verdict (λ (reason : Refusal). yes reason last k)
+questions_are : (last : Option Float) (k : Tick) → questions last k ≡ verdict (λ (reason : Refusal). yes reason last k)
 unfolding questions
 questions_are last k = refl
 
@@ -200,16 +199,16 @@ module _ (b : Refusal → Bool) where
       each AirflowOutOfRange y1 y2 y3 y4 y5 y6 y7 = y7
 
 -- ---- the questions, asked of a tick after the last accepted time `last`
-pub questions_accept : (last : OptionalTime) (k : Tick) → (questions last k ≡ Ok tt) ↔ AllYes last k
+pub questions_accept : (last : Option Float) (k : Tick) → (questions last k ≡ Ok tt) ↔ AllYes last k
 questions_accept last k =
     let answers : Refusal → Bool = λ reason. yes reason last k in
     (λ e. accept→all answers (sym (questions_are last k) ∙ e), λ all. questions_are last k ∙ all→accept answers all)
 
 -- questions 1 and 2
-pub accepted_time : (last : OptionalTime) (k : Tick) → AllYes last k → IsTime k.t
+pub accepted_time : (last : Option Float) (k : Tick) → AllYes last k → IsTime k.t
 accepted_time last k all = time_of_whole k.t (all NotWholeSeconds) (all TimeOutOfRange)
 
-pub questions_refuse : (last : OptionalTime) (k : Tick) (reason : Refusal) → (questions last k ≡ Err reason) ↔ FirstNo reason last k
+pub questions_refuse : (last : Option Float) (k : Tick) (reason : Refusal) → (questions last k ≡ Err reason) ↔ FirstNo reason last k
 questions_refuse last k reason =
     let answers : Refusal → Bool = λ reason. yes reason last k in (
       λ e. let f = refused→first answers reason (sym (questions_are last k) ∙ e) in record { is_no = f.0; earlier_yes = f.1 },
@@ -227,7 +226,7 @@ unfolding tick
 tick_refused box k reason first = rw ((questions_refuse box.last_time k reason).1 first)
 
 -- every tick is the one or the other
-pub by_verdict : {P : Type 0} (last : OptionalTime) (k : Tick) → (AllYes last k → P) → ((reason : Refusal) → FirstNo reason last k → P) → P
+pub by_verdict : {P : Type 0} (last : Option Float) (k : Tick) → (AllYes last k → P) → ((reason : Refusal) → FirstNo reason last k → P) → P
 by_verdict {P} last k yes_all no_first = go (questions last k) refl
   where
     go : (v : Result ⊤ Refusal) → questions last k ≡ v → P

@@ -11,7 +11,6 @@ use Rattle.f64_helpers.proofs.WholeSeconds.{zero_whole}
 use Rattle.f64_helpers.proofs.Times.{decimal_whole, is_time_of, is_time_means}
 use Rattle.box_choices.specs.declared.Choices.{Choices}
 use Rattle.cdl_recurrences.specs.CdlRecurrences.{buildings_round_six, initial_sample_time}
-use Rattle.cdl_recurrences.specs.declared.OptionalTime.TheVariants.{Absent}
 use Rattle.cdl_recurrences.proofs.SampleGrid.{round_six_time, multiple_is_time}
 use Rattle.cooling_only_controller_timing.specs.Timing.{sampler_sample, unit_delay_sample}
 use Rattle.cooling_only_controller_conditioning.specs.Conditioning.{SAMPLE_PERIOD, time_suppression}
@@ -21,6 +20,7 @@ use Rattle.air_box.specs.AirBox.{unticked}
 use Rattle.air_box.specs.Demand2.{controller_step_of}
 use Rattle.air_box.specs.NoDivision.{as_it_came, multiple_before, GridsStartAt, NoDivision}
 use Rattle.air_box.specs.declared.Tick.{Tick}
+use Rattle.std.proofs.Common.{None}
 use Rattle.air_box.proofs.Demands.{accepted_time, demand_2}
 
 multiple_among : (t : Float) → IsTime t → T (is_time (multiple_before t))
@@ -46,5 +46,5 @@ no_division =
       same = round_six_time;
       handed_on = rounded;
       accepted = λ box k all. multiple_among k.t (accepted_time box.last_time k all);
-      first_tick = λ choices k all. rw ((demand_2 (unticked choices) k all).next_state, sym (first_as_it_came k.t (accepted_time Absent k all))) (grids_start choices k);
+      first_tick = λ choices k all. rw ((demand_2 (unticked choices) k all).next_state, sym (first_as_it_came k.t (accepted_time None k all))) (grids_start choices k);
     }

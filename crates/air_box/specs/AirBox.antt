@@ -1,6 +1,6 @@
 -- The air box of document 01: the Rust's state with the last accepted time and what was chosen when it was built beside it,
 -- the questions asked of a tick, the quiet start, building (document 02, N13) and the desk code.
-use Rattle.std.specs.Prelude.{ℕ, Bool, true, false, not, ◌&&◌, ◌⊎◌, ℤ, Float, if◌then◌else◌, Result, Ok, Err, ⊤}
+use Rattle.std.specs.Prelude.{Some, None, Option, ℕ, Bool, true, false, not, ◌&&◌, ◌⊎◌, ℤ, Float, if◌then◌else◌, Result, Ok, Err, ⊤}
 use Rattle.std.proofs.Common.{inl, inr}
 use Rattle.std.specs.Float.Ieee.{neg}
 use Rattle.f64_helpers.specs.F64.{◌⊖◌, ◌≤ᶠ◌, ◌≥ᶠ◌, decimal, zero}
@@ -8,8 +8,6 @@ use Rattle.f64_helpers.specs.Helpers.{is_whole}
 use Rattle.f64_helpers.specs.Integers.{◌==ᶻ◌}
 use Rattle.box_choices.specs.BoxChoices.{usual}
 use Rattle.box_choices.specs.declared.Choices.{Choices}
-use Rattle.cdl_recurrences.specs.declared.OptionalTime.{OptionalTime}
-use Rattle.cdl_recurrences.specs.declared.OptionalTime.TheVariants.{Absent, At}
 use Rattle.cooling_only_controller.specs.Controller.{controller_output, fresh_controller}
 use Rattle.cooling_only_controller.specs.declared.ControllerInput.{ControllerInput}
 use Rattle.cooling_only_controller.specs.declared.ControllerOutput.{ControllerOutput}
@@ -53,13 +51,13 @@ abbrev pub within : Float → Float → Float → Bool
 within x low high = (x ≥ᶠ low) && (x ≤ᶠ high)
 
 -- Questions 3 and 4. They are not asked on a first tick.
-abbrev pub at_or_after : OptionalTime → Float → Bool
-at_or_after Absent t = true
-at_or_after (At last) t = t ≥ᶠ last
+abbrev pub at_or_after : Option Float → Float → Bool
+at_or_after None t = true
+at_or_after (Some last) t = t ≥ᶠ last
 
-abbrev pub soon_after : OptionalTime → Float → Bool
-soon_after Absent t = true
-soon_after (At last) t = t ⊖ last ≤ᶠ decimal 240 1
+abbrev pub soon_after : Option Float → Float → Bool
+soon_after None t = true
+soon_after (Some last) t = t ⊖ last ≤ᶠ decimal 240 1
 
 -- question 5
 abbrev pub temperatures_within : ControllerInput → Bool
@@ -71,7 +69,7 @@ temperatures_within input =
     && within input.supply_air_temperature (decimal 150 1) (decimal 450 1)
 
 -- Each of the seven questions under the reason that its "no" gives: whether the tick k gets a "yes", after the last accepted time `last`.
-abbrev pub yes : Refusal → OptionalTime → Tick → Bool
+abbrev pub yes : Refusal → Option Float → Tick → Bool
 yes NotWholeSeconds last k = is_whole k.t
 yes TimeOutOfRange last k = within k.t zero (decimal 2147483648 1)
 yes BeforeLast last k = at_or_after last k.t
@@ -82,7 +80,7 @@ yes Co2OutOfRange last k =
 yes AirflowOutOfRange last k = within k.input.discharge_airflow (neg (decimal 10 1)) (decimal 10 1)
 
 -- The seven questions in their order. The first "no" is the reason.
-unfoldable pub questions : OptionalTime → Tick → Result ⊤ Refusal
+unfoldable pub questions : Option Float → Tick → Result ⊤ Refusal
 questions last k =
     if not (yes NotWholeSeconds last k) then Err NotWholeSeconds
     else (if not (yes TimeOutOfRange last k) then Err TimeOutOfRange
@@ -103,7 +101,7 @@ delay_on_init Quiet = true
 
 -- a box that has had no tick
 abbrev pub unticked : Choices → AirBox
-unticked choices = record { state = fresh_controller; last_time = Absent; choices = choices }
+unticked choices = record { state = fresh_controller; last_time = None; choices = choices }
 
 -- the one that is built without naming design flows or a reading
 abbrev pub fresh_box : Start → AirBox
@@ -114,7 +112,7 @@ unfoldable pub accepted_tick : AirBox → Tick → AirBoxStep
 accepted_tick box k =
     let step = controller_output box.state k.t k.input box.choices in
     record {
-      state = record { state = step.state; last_time = At k.t; choices = box.choices };
+      state = record { state = step.state; last_time = Some k.t; choices = box.choices };
       answer = Ok step.output;
     }
 

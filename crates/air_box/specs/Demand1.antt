@@ -2,9 +2,8 @@
 -- by the first "no"; it then gives that reason's number and changes nothing.
 -- That the tick ends and does nothing undefined is what the check of the method `AirBox::tick` shows: its contract has no `requires`,
 -- and says that it returns `tick` of the box and the tick.
-use Rattle.std.specs.Prelude.{◌≡◌, ◌↔◌, ℕ, ◌<◌, not, T}
+use Rattle.std.specs.Prelude.{Float, Option, ◌≡◌, ◌↔◌, ℕ, ◌<◌, not, T}
 use Rattle.std.proofs.Common.{inl, inr}
-use Rattle.cdl_recurrences.specs.declared.OptionalTime.{OptionalTime}
 use Rattle.cooling_only_controller.specs.declared.ControllerOutput.{ControllerOutput}
 use Rattle.air_box.specs.AirBox.{yes, refusal_number, tick, given_for}
 use Rattle.air_box.specs.declared.Tick.{Tick}
@@ -12,11 +11,11 @@ use Rattle.air_box.specs.declared.AirBox.{AirBox}
 use Rattle.air_box.specs.declared.Refusal.{Refusal}
 
 -- no question gets a "no", after the last accepted time `last`
-abbrev pub AllYes : OptionalTime → Tick → Type 0
+abbrev pub AllYes : Option Float → Tick → Type 0
 AllYes last k = (reason : Refusal) → T (yes reason last k)
 
 -- this question gets a "no", and every question of a smaller number a "yes"
-pub record FirstNo (reason : Refusal) (last : OptionalTime) (k : Tick) : Type 0 where
+pub record FirstNo (reason : Refusal) (last : Option Float) (k : Tick) : Type 0 where
   pub is_no : T (not (yes reason last k))
   pub earlier_yes : (other : Refusal) → refusal_number other < refusal_number reason → T (yes other last k)
 

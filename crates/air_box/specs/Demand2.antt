@@ -5,18 +5,19 @@
 -- For a plain start and the first reading of the airflow sensor alarm that is what the Rust, so changed, gives on accepted ticks; this is argued and
 -- run, not proved (docs/DIFFERENCES.md). What the second reading changes (N12) is said in SecondReading.antt of nights.
 -- The method `AirBox::tick` returns `tick` of the box and the tick, by its contract.
-use Rattle.std.specs.Prelude.{◌≡◌}
+use Rattle.std.specs.Prelude.{Some, ◌≡◌}
 use Rattle.std.proofs.Common.{inl}
-use Rattle.cdl_recurrences.specs.declared.OptionalTime.TheVariants.{At}
 use Rattle.cooling_only_controller.specs.Controller.{controller_output}
-use Rattle.cooling_only_controller.specs.declared.ControllerStep.{ControllerStep}
+use Rattle.cooling_only_controller_timing.specs.declared.Step.{Step}
 use Rattle.air_box.specs.AirBox.{tick, given_for}
 use Rattle.air_box.specs.Demand1.{AllYes}
 use Rattle.air_box.specs.declared.Tick.{Tick}
+use Rattle.cooling_only_controller.specs.declared.ControllerState.{ControllerState}
+use Rattle.cooling_only_controller.specs.declared.ControllerOutput.{ControllerOutput}
 use Rattle.air_box.specs.declared.AirBox.{AirBox}
 
 -- the controller's step for this tick, from its state in the box and what was chosen when the box was built
-abbrev pub controller_step_of : AirBox → Tick → ControllerStep
+abbrev pub controller_step_of : AirBox → Tick → Step ControllerState ControllerOutput
 controller_step_of box k = controller_output box.state k.t k.input box.choices
 
 -- what an accepted tick does
@@ -26,7 +27,7 @@ pub record Stepped (box : AirBox) (k : Tick) : Type 0 where
   -- the controller's state afterwards is the controller's next state
   pub next_state : (tick box k).state.state ≡ (controller_step_of box k).state
   -- its time is the last accepted one
-  pub last_time : (tick box k).state.last_time ≡ At k.t
+  pub last_time : (tick box k).state.last_time ≡ Some k.t
   -- what was chosen when the box was built, which is all else that it holds, stays
   pub choices_kept : (tick box k).state.choices ≡ box.choices
 

@@ -2,7 +2,7 @@
 -- `buildings_round_six` takes the shorter way, what that gives, and that what an accepted tick hands to it is among them.
 -- That code asks `is_time`. Its one function that multiplies or divides by 1,000,000, `round_six_by_division`, requires that `is_time`
 -- says no, so that the check of its caller shows that it is called for no other number.
-use Rattle.std.specs.Prelude.{◌≡◌, ◌↔◌, T, Float, if◌then◌else◌}
+use Rattle.std.specs.Prelude.{None, ◌≡◌, ◌↔◌, T, Float, if◌then◌else◌}
 use Rattle.std.specs.Float.{binary64}
 use Rattle.std.specs.Float.Ieee.{fits, neg}
 use Rattle.f64_helpers.specs.F64.{◌⊗◌, ◌⊘◌, ◌>ᶠ◌, zero}
@@ -10,7 +10,6 @@ use Rattle.f64_helpers.specs.Helpers.{floor}
 use Rattle.f64_helpers.specs.Seconds.{IsTime, is_time}
 use Rattle.box_choices.specs.declared.Choices.{Choices}
 use Rattle.cdl_recurrences.specs.CdlRecurrences.{buildings_round_six, initial_sample_time}
-use Rattle.cdl_recurrences.specs.declared.OptionalTime.TheVariants.{Absent}
 use Rattle.cooling_only_controller_conditioning.specs.Conditioning.{SAMPLE_PERIOD}
 use Rattle.cooling_only_controller.specs.declared.ControllerState.{ControllerState}
 use Rattle.air_box.specs.AirBox.{unticked, tick}
@@ -47,5 +46,5 @@ pub record NoDivision : Type 0 where
   -- of every accepted tick, whatever the box holds, that multiple is among the numbers of the shorter way
   pub accepted : (box : AirBox) (k : Tick) → AllYes box.last_time k → T (is_time (multiple_before k.t))
   -- so all six grids of a box start, at its first accepted tick, at that multiple as it came
-  pub first_tick : (choices : Choices) (k : Tick) → AllYes Absent k
+  pub first_tick : (choices : Choices) (k : Tick) → AllYes None k
       → GridsStartAt (as_it_came (multiple_before k.t)) (tick (unticked choices) k).state.state

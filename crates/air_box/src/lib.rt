@@ -5,7 +5,6 @@ ghost use Rattle.std.specs.Prelude.{◌≡◌};
 ghost use Rattle.air_box.specs.AirBox as AirBoxes;
 
 use box_choices::Choices;
-use cdl_recurrences::OptionalTime;
 use cooling_only_controller::{ControllerInput, ControllerOutput, ControllerState};
 use std::error::Error;
 use std::fmt;
@@ -28,7 +27,7 @@ pub enum Start {
 #[derive(Clone, Copy)]
 pub struct AirBox {
     pub state: ControllerState,
-    pub last_time: OptionalTime,
+    pub last_time: Option<f64>,
     pub choices: Choices,
 }
 
@@ -165,7 +164,7 @@ impl AirBox {
         AirBoxStep {
             state: AirBox {
                 state: step.state,
-                last_time: OptionalTime::At(tick.t),
+                last_time: Some(tick.t),
                 ..self
             },
             answer: Ok(step.output),
@@ -188,7 +187,7 @@ fn unticked(choices: Choices) -> AirBox
 {
     AirBox {
         state: ControllerState::fresh(),
-        last_time: OptionalTime::Absent,
+        last_time: None,
         choices,
     }
 }
@@ -202,7 +201,7 @@ fn design_flows_within(choices: Choices) -> bool
 }
 
 // The seven questions, in order: the first "no" is the reason.
-pub fn questions(last_time: OptionalTime, tick: Tick) -> Result<(), Refusal>
+pub fn questions(last_time: Option<f64>, tick: Tick) -> Result<(), Refusal>
     ensures { result ≡ AirBoxes.questions last_time tick }
 {
     let t = tick.t;
@@ -238,22 +237,16 @@ fn within(x: f64, low: f64, high: f64) -> bool
     (x >= low) & (x <= high)
 }
 
-fn at_or_after(last_time: OptionalTime, t: f64) -> bool
+fn at_or_after(last_time: Option<f64>, t: f64) -> bool
     ensures { result ≡ AirBoxes.at_or_after last_time t }
 {
-    match last_time {
-        OptionalTime::Absent => true,
-        OptionalTime::At(last) => t >= last,
-    }
+    last_time.is_none_or(|last| t >= last)
 }
 
-fn soon_after(last_time: OptionalTime, t: f64) -> bool
+fn soon_after(last_time: Option<f64>, t: f64) -> bool
     ensures { result ≡ AirBoxes.soon_after last_time t }
 {
-    match last_time {
-        OptionalTime::Absent => true,
-        OptionalTime::At(last) => t - last <= 240.0,
-    }
+    last_time.is_none_or(|last| t - last <= 240.0)
 }
 
 fn temperatures_within(input: ControllerInput) -> bool

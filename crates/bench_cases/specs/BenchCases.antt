@@ -1,10 +1,9 @@
 -- Document 01's bench cases a to k, each as what the definitions give beside what it should be.
-use Rattle.std.specs.Prelude.{◌≡◌, List, [], ◌∷◌, ◌++◌, ℕ, ◌*◌, length, replicate, Bool, true, false, ℤ, pos, negsuc, Float, Result, Ok, Err}
+use Rattle.std.specs.Prelude.{Some, ◌≡◌, List, [], ◌∷◌, ◌++◌, ℕ, ◌*◌, length, replicate, Bool, true, false, ℤ, pos, negsuc, Float, Result, Ok, Err}
 use Rattle.std.specs.Float.Ieee.{neg}
 use Rattle.f64_helpers.specs.F64.{decimal, zero}
 use Rattle.box_choices.specs.BoxChoices.{usual}
 use Rattle.cdl_recurrences.specs.CdlRecurrences.{buildings_line}
-use Rattle.cdl_recurrences.specs.declared.OptionalTime.TheVariants.{At}
 use Rattle.cooling_only_controller_timing.specs.Timing.{sampler_sample, fresh_sampler, fresh_unit_delay, fresh_true_delay}
 use Rattle.cooling_only_controller_timing.specs.History.{Sample, true_delay_after}
 use Rattle.cooling_only_controller_timing.specs.declared.SamplerState.{SamplerState}
@@ -102,7 +101,7 @@ suppressed captured_setpoint captured_zone =
       change_detected = false;
       suppression_latch = record { held = true; previous_input = false };
       passed_latch = fresh_latch;
-      timer = record { entry_time = At zero; previous_input = true };
+      timer = record { entry_time = Some zero; previous_input = true };
       previous_active = true;
       previous_passed = false;
       captured_setpoint = captured_setpoint;

@@ -1,19 +1,19 @@
 -- The thresholds that a loop's output or a damper command is held to, told to the last bit: the answer turns between two neighbouring
 -- f64, written as their bits.
 -- No night is sure to bring a reading so close, so these hold the definitions where the comparison with the Rust may not reach.
-use Rattle.std.specs.Prelude.{◌≡◌, List, [], ◌∷◌, Bool, true, false, ℕ, Float}
+use Rattle.std.specs.Prelude.{None, ◌≡◌, List, [], ◌∷◌, Bool, true, false, ℕ, Float}
 use Rattle.std.specs.Float.{binary64}
 use Rattle.std.specs.Float.Ieee.{of_bits, eq}
 use Rattle.f64_helpers.specs.F64.{decimal, zero}
 use Rattle.box_choices.specs.BoxChoices.{usual}
-use Rattle.cdl_recurrences.specs.declared.OptionalTime.TheVariants.{Absent}
 use Rattle.cooling_only_controller_timing.specs.Timing.{fresh_sampler, fresh_true_delay}
 use Rattle.cooling_only_controller_conditioning.specs.Conditioning.{control_loops, zone_states}
 use Rattle.cooling_only_controller_conditioning.specs.declared.ControlLoopsState.{ControlLoopsState}
-use Rattle.cooling_only_controller_conditioning.specs.declared.ControlLoopsStep.{ControlLoopsStep}
+use Rattle.cooling_only_controller_timing.specs.declared.Step.{Step}
 use Rattle.cooling_only_controller_conditioning.specs.declared.LoopPiState.{LoopPiState}
 use Rattle.cooling_only_controller_airflow.specs.Airflow.{system_requests}
 use Rattle.cooling_only_controller_airflow.specs.declared.SystemRequestInput.{SystemRequestInput}
+use Rattle.cooling_only_controller_conditioning.specs.declared.ControlLoopOutput.{ControlLoopOutput}
 use Rattle.cooling_only_controller_airflow.specs.declared.SystemRequestsState.{SystemRequestsState}
 
 -- each test of x, by what it was before
@@ -30,9 +30,9 @@ heating_tiebreak was x =
     (zone_states (record { heating_signal = false; cooling_signal = false; heating_tiebreak = was }) x zero).state.heating_tiebreak
 
 -- a first tick of the two loops, not enabled, with no error and the integrator x, so that the raw output is x
-abbrev loops_at : Bool → Float → ControlLoopsStep
+abbrev loops_at : Bool → Float → Step ControlLoopsState ControlLoopOutput
 loops_at was x =
-    let pi : LoopPiState = record { integrator = x; previous_time = Absent; previous_trigger = false } in
+    let pi : LoopPiState = record { integrator = x; previous_time = None; previous_trigger = false } in
     let loops : ControlLoopsState = record {
       cooling_enable = false;
       heating_enable = false;

@@ -3,10 +3,9 @@
 use mathlib.Core.Path.{◌≡◌, refl, sym, subst}
 use mathlib.Core.Logic.{inl, inr}
 use mathlib.Core.List.{List, [], ◌∷◌}
-use Rattle.std.specs.Prelude.{Err}
+use Rattle.std.specs.Prelude.{Float, Option, Err}
 use Rattle.box_choices.specs.declared.Choices.{Choices}
 use Rattle.cdl_recurrences.specs.DeadBand.{Related}
-use Rattle.cdl_recurrences.specs.declared.OptionalTime.{OptionalTime}
 use Rattle.air_box.specs.AirBox.{unticked, accepted_tick, tick, outputs_or_number, refusal_number}
 use Rattle.air_box.specs.Demand1.{AllYes, FirstNo}
 use Rattle.air_box.specs.Demand2.{controller_step_of}
@@ -36,10 +35,10 @@ grown_choices choices (k ∷ h) = grown_choices choices h
 
 -- ---- its tick
 pub grown_accepts : (choices : Choices) (h : List Tick) (k : Tick) → AllYes (newest_time h) k → tick (grown choices h) k ≡ accepted_tick (grown choices h) k
-grown_accepts choices h k all = tick_accepted (grown choices h) k (subst (λ (last : OptionalTime). AllYes last k) (sym (grown_last choices h)) all)
+grown_accepts choices h k all = tick_accepted (grown choices h) k (subst (λ (last : Option Float). AllYes last k) (sym (grown_last choices h)) all)
 
 pub grown_refuses : (choices : Choices) (h : List Tick) (k : Tick) (reason : Refusal) → FirstNo reason (newest_time h) k → tick (grown choices h) k ≡ record { state = grown choices h; answer = Err reason }
-grown_refuses choices h k reason first = tick_refused (grown choices h) k reason (subst (λ (last : OptionalTime). FirstNo reason last k) (sym (grown_last choices h)) first)
+grown_refuses choices h k reason first = tick_refused (grown choices h) k reason (subst (λ (last : Option Float). FirstNo reason last k) (sym (grown_last choices h)) first)
 
 -- a step of a night, by what the box's tick gives
 abbrev pub step_by : Tick → AirBoxStep → NightStep

@@ -1,9 +1,8 @@
 -- A night has its oldest tick first. The laws of the dead band and of the true delay speak of histories, with the newest first. Here the one is turned into the other. Assumes nothing.
 use mathlib.Core.Path.{◌≡◌, refl, sym, ap, ◌∙◌}
 use mathlib.Core.List.{List, [], ◌∷◌, ◌++◌, reverse_aux, reverse_aux-append, append_assoc, append-nil}
-use Rattle.cdl_recurrences.specs.declared.OptionalTime.{OptionalTime}
-use Rattle.cdl_recurrences.specs.declared.OptionalTime.TheVariants.{Absent, At}
 use Rattle.air_box.specs.declared.Tick.{Tick}
+use Rattle.std.proofs.Common.{None, Float, Some, Option}
 use Rattle.nights.specs.Nights.{last_time}
 
 -- the ticks of a history, the oldest first
@@ -28,11 +27,11 @@ pub history_of_parts : (h before : List Tick) (k : Tick) (since : List Tick) →
 history_of_parts h before k since e = sym (reverse_aux-append before (k ∷ since) []) ∙ ap (extended []) (sym e) ∙ extended_in_order h
 
 -- ---- the time of the newest tick
-abbrev pub newest_time : List Tick → OptionalTime
-newest_time [] = Absent
-newest_time (k ∷ h) = At k.t
+abbrev pub newest_time : List Tick → Option Float
+newest_time [] = None
+newest_time (k ∷ h) = Some k.t
 
-last_of_appended : (ks : List Tick) (k : Tick) → last_time (ks ++ (k ∷ [])) ≡ At k.t
+last_of_appended : (ks : List Tick) (k : Tick) → last_time (ks ++ (k ∷ [])) ≡ Some k.t
 last_of_appended [] k = refl
 last_of_appended (j ∷ []) k = refl
 last_of_appended (i ∷ j ∷ ks) k = last_of_appended (j ∷ ks) k

@@ -3,21 +3,19 @@ use mathlib.Core.Path.{◌≡◌, refl, sym, ap, ◌∙◌, subst}
 use mathlib.Core.List.{List, [], ◌∷◌}
 use mathlib.Core.Bool.{false}
 use lib.Ieee.{Float, round, neg, sub, add, mul, lt, le, eq, is_nan}
-use Rattle.std.specs.Prelude.{Result, Ok, Err, ⊤}
+use Rattle.std.specs.Prelude.{Option, Some, Result, Ok, Err, ⊤}
 use Rattle.f64_helpers.specs.F64.{decimal}
 use Rattle.f64_helpers.specs.Helpers.{max}
 use Rattle.f64_helpers.proofs.Tests.{and_false}
 use Rattle.box_choices.specs.declared.Choices.{Choices}
 use Rattle.cdl_recurrences.specs.CdlRecurrences.{true_delay_output, hysteresis, less_hysteretic, greater_hysteretic}
 use Rattle.cdl_recurrences.specs.DeadBand.{Related}
-use Rattle.cdl_recurrences.specs.declared.OptionalTime.{OptionalTime}
-use Rattle.cdl_recurrences.specs.declared.OptionalTime.TheVariants.{At}
 use Rattle.cooling_only_controller_timing.specs.Timing.{true_delay}
 use Rattle.cooling_only_controller_timing.proofs.TrueDelayLaw.{on_init_at_the_first_alone}
 use Rattle.cooling_only_controller_airflow.specs.Airflow.{damper, alarms}
 use Rattle.cooling_only_controller_airflow.specs.declared.AlarmsState.{AlarmsState}
 use Rattle.cooling_only_controller.specs.Controller.{controller_output}
-use Rattle.cooling_only_controller.specs.declared.ControllerStep.{ControllerStep}
+use Rattle.cooling_only_controller_timing.specs.declared.Step.{Step}
 use Rattle.air_box.specs.AirBox.{unticked, decided, accepted_tick, tick, questions, outputs_or_number}
 use Rattle.air_box.specs.Demand1.{AllYes, FirstNo}
 use Rattle.air_box.specs.Demand2.{controller_step_of}
@@ -32,6 +30,8 @@ use Rattle.nights.specs.QuietStart.{alarms_armed, old_alarms, old_tick, old_step
 use Rattle.nights.proofs.Histories.{newest_time}
 use Rattle.nights.proofs.AcceptedTicks.{AllAccepted}
 use Rattle.nights.proofs.Grown.{grown, grown_last, grown_choices, grown_accepts, grown_refuses, Grows, grows, along_two}
+use Rattle.cooling_only_controller.specs.declared.ControllerState.{ControllerState}
+use Rattle.cooling_only_controller.specs.declared.ControllerOutput.{ControllerOutput}
 use Rattle.nights.proofs.LowAirflowAlarm.{Taken, AlarmsAlong, never_later}
 
 one_place : OnePlace
@@ -58,7 +58,7 @@ plain_untouched box k plain = tick_alike box k (rw plain)
 
 -- ---- once the arming delay has had a tick it steps alike
 abbrev HasTicked : AirBox → Type 0
-HasTicked box = (p : Float) × (box.state.alarms.fan_armed.previous_time ≡ At p)
+HasTicked box = (p : Float) × (box.state.alarms.fan_armed.previous_time ≡ Some p)
 
 accepted_ticked : (box : AirBox) (k : Tick) → HasTicked (accepted_tick box k).state
 unfolding accepted_tick controller_output alarms true_delay
@@ -99,7 +99,7 @@ with_alarms a box =
       choices = box.choices;
     }
 
-abbrev old_step_of : AirBox → Tick → ControllerStep
+abbrev old_step_of : AirBox → Tick → Step ControllerState ControllerOutput
 old_step_of box k = controller_with old_alarms box.state k.t k.input box.choices
 
 -- the old box is the new one with its own alarms
@@ -271,7 +271,7 @@ stopped choices h k rest all off =
 same_from_a_stop : SameFromAStop
 same_from_a_stop choices before k rest all off =
     let (g, a, new, old) = reached choices [] before tt in
-    rw (new, old) (stopped choices g k rest (subst (λ (last : OptionalTime). AllYes last k) (ap (λ (b : AirBox). b.last_time) new ∙ grown_last choices g) all) off)
+    rw (new, old) (stopped choices g k rest (subst (λ (last : Option Float). AllYes last k) (ap (λ (b : AirBox). b.last_time) new ∙ grown_last choices g) all) off)
 
 bench_case : BenchCase
 unfolding questions accepted_tick tick controller_output damper alarms accepted_with tick_with alarms_armed

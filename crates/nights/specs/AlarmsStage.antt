@@ -1,27 +1,27 @@
 -- The box with another alarms stage in place of its own, for claims that set an old stage beside that of today.
 -- `OnePlace` of QuietStart.antt says that with `alarms` itself it is the controller of today.
-use Rattle.std.specs.Prelude.{Float, Result, Ok, Err, ⊤}
+use Rattle.std.specs.Prelude.{Some, Float, Result, Ok, Err, ⊤}
 use Rattle.box_choices.specs.declared.Choices.{Choices}
-use Rattle.cdl_recurrences.specs.declared.OptionalTime.TheVariants.{At}
 use Rattle.cooling_only_controller_airflow.specs.declared.AlarmInput.{AlarmInput}
 use Rattle.cooling_only_controller_airflow.specs.declared.AlarmsState.{AlarmsState}
-use Rattle.cooling_only_controller_airflow.specs.declared.AlarmsStep.{AlarmsStep}
+use Rattle.cooling_only_controller_timing.specs.declared.Step.{Step}
 use Rattle.cooling_only_controller.specs.Controller.{controller_output}
 use Rattle.cooling_only_controller.specs.declared.ControllerInput.{ControllerInput}
 use Rattle.cooling_only_controller.specs.declared.ControllerState.{ControllerState}
-use Rattle.cooling_only_controller.specs.declared.ControllerStep.{ControllerStep}
 use Rattle.air_box.specs.AirBox.{questions}
 use Rattle.air_box.specs.declared.Tick.{Tick}
 use Rattle.air_box.specs.declared.Refusal.{Refusal}
 use Rattle.air_box.specs.declared.AirBox.{AirBox}
+use Rattle.cooling_only_controller_airflow.specs.declared.AlarmOutput.{AlarmOutput}
+use Rattle.cooling_only_controller.specs.declared.ControllerOutput.{ControllerOutput}
 use Rattle.air_box.specs.declared.AirBoxStep.{AirBoxStep}
 
 -- an alarms stage
 abbrev pub AlarmsStage : Type 0
-AlarmsStage = AlarmsState → Float → AlarmInput → Choices → AlarmsStep
+AlarmsStage = AlarmsState → Float → AlarmInput → Choices → Step AlarmsState AlarmOutput
 
 -- The controller with it. The alarms stage is the last: what it gives is in the outputs and the state alone.
-abbrev pub controller_with : AlarmsStage → ControllerState → Float → ControllerInput → Choices → ControllerStep
+abbrev pub controller_with : AlarmsStage → ControllerState → Float → ControllerInput → Choices → Step ControllerState ControllerOutput
 controller_with stage s t input choices =
     let before = controller_output s t input choices in
     let alarms = stage s.alarms t record {
@@ -60,7 +60,7 @@ unfoldable pub accepted_with : AlarmsStage → AirBox → Tick → AirBoxStep
 accepted_with stage box k =
     let step = controller_with stage box.state k.t k.input box.choices in
     record {
-      state = record { state = step.state; last_time = At k.t; choices = box.choices };
+      state = record { state = step.state; last_time = Some k.t; choices = box.choices };
       answer = Ok step.output;
     }
 

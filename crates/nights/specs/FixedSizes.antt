@@ -1,39 +1,37 @@
 -- The box as it was before document 02's N13: its design flows are fixed at 0.5 and 1.5. These are the definitions of then, word for word
 -- but for the names, and they stand for the claim of OtherSizes.antt alone. What took neither a design flow nor the start is that of today:
 -- `time_suppression`, `control_loops`, `zone_states` and the blocks below the stages.
-use Rattle.std.specs.Prelude.{Bool, false, not, ◌&&◌, ◌||◌, List, [], ◌∷◌, ◌⊎◌, ℕ, ℤ, pos, Float, if◌then◌else◌, Result, Ok, Err, ⊤}
+use Rattle.std.specs.Prelude.{Some, None, Option, Bool, false, not, ◌&&◌, ◌||◌, List, [], ◌∷◌, ◌⊎◌, ℕ, ℤ, pos, Float, if◌then◌else◌, Result, Ok, Err, ⊤}
 use Rattle.std.specs.Int.Signed.{le_z}
 use Rattle.f64_helpers.specs.F64.{◌⊕◌, ◌⊖◌, ◌⊗◌, ◌⊘◌, decimal, zero}
 use Rattle.f64_helpers.specs.Integers.{◌==ᶻ◌}
 use Rattle.cdl_recurrences.specs.CdlRecurrences.{buildings_line, clamp, greater_hysteretic, hysteresis, less_hysteretic}
-use Rattle.cdl_recurrences.specs.declared.OptionalTime.{OptionalTime}
-use Rattle.cdl_recurrences.specs.declared.OptionalTime.TheVariants.{Absent, At}
 use Rattle.cooling_only_controller_timing.specs.Timing.{sampler_sample, true_delay, step_seconds}
 use Rattle.cooling_only_controller_conditioning.specs.Conditioning.{TEMPERATURE_HYSTERESIS, AREA_BREATHING_FLOW, POPULATION_BREATHING_FLOW}
 use Rattle.cooling_only_controller_conditioning.specs.Conditioning.{COOLING_DISTRIBUTION_EFFECTIVENESS, HEATING_DISTRIBUTION_EFFECTIVENESS}
 use Rattle.cooling_only_controller_conditioning.specs.Conditioning.{time_suppression, control_loops, zone_states}
 use Rattle.cooling_only_controller_conditioning.specs.declared.SetpointInput.{SetpointInput}
 use Rattle.cooling_only_controller_conditioning.specs.declared.SetpointsState.{SetpointsState}
-use Rattle.cooling_only_controller_conditioning.specs.declared.SetpointsStep.{SetpointsStep}
+use Rattle.cooling_only_controller_timing.specs.declared.Step.{Step}
 use Rattle.cooling_only_controller_conditioning.specs.declared.ActiveAirflowOutput.{ActiveAirflowOutput}
 use Rattle.cooling_only_controller_airflow.specs.Airflow.{FLOW_HYSTERESIS, DAMPER_POSITION_HYSTERESIS, SAMPLE_PERIOD, request_level}
 use Rattle.cooling_only_controller_airflow.specs.declared.DamperInput.{DamperInput}
 use Rattle.cooling_only_controller_airflow.specs.declared.DamperState.{DamperState}
-use Rattle.cooling_only_controller_airflow.specs.declared.DamperStep.{DamperStep}
 use Rattle.cooling_only_controller_airflow.specs.declared.SystemRequestInput.{SystemRequestInput}
 use Rattle.cooling_only_controller_airflow.specs.declared.SystemRequestsState.{SystemRequestsState}
-use Rattle.cooling_only_controller_airflow.specs.declared.SystemRequestsStep.{SystemRequestsStep}
 use Rattle.cooling_only_controller_airflow.specs.declared.AlarmInput.{AlarmInput}
 use Rattle.cooling_only_controller_airflow.specs.declared.AlarmsState.{AlarmsState}
-use Rattle.cooling_only_controller_airflow.specs.declared.AlarmsStep.{AlarmsStep}
 use Rattle.cooling_only_controller.specs.Controller.{fresh_controller}
 use Rattle.cooling_only_controller.specs.declared.ControllerInput.{ControllerInput}
 use Rattle.cooling_only_controller.specs.declared.ControllerOutput.{ControllerOutput}
 use Rattle.cooling_only_controller.specs.declared.ControllerState.{ControllerState}
-use Rattle.cooling_only_controller.specs.declared.ControllerStep.{ControllerStep}
 use Rattle.air_box.specs.AirBox.{delay_on_init, questions, outputs_or_number}
 use Rattle.air_box.specs.declared.Tick.{Tick}
 use Rattle.air_box.specs.declared.Refusal.{Refusal}
+use Rattle.cooling_only_controller_conditioning.specs.declared.SetpointOutput.{SetpointOutput}
+use Rattle.cooling_only_controller_airflow.specs.declared.DamperOutput.{DamperOutput}
+use Rattle.cooling_only_controller_airflow.specs.declared.SystemRequestOutput.{SystemRequestOutput}
+use Rattle.cooling_only_controller_airflow.specs.declared.AlarmOutput.{AlarmOutput}
 use Rattle.air_box.specs.declared.Start.{Start}
 
 -- ---- the two constants
@@ -47,7 +45,7 @@ DESIGN_COOLING_MAXIMUM_FLOW = decimal 15 10
 -- ---- the stages that had one of them, or the start
 
 -- `setpoints`
-unfoldable pub fixed_setpoints : SetpointsState → SetpointInput → SetpointsStep
+unfoldable pub fixed_setpoints : SetpointsState → SetpointInput → Step SetpointsState SetpointOutput
 fixed_setpoints s input =
     let cooling_supply = greater_hysteretic input.zone_temperature input.discharge_air_temperature
     TEMPERATURE_HYSTERESIS s.cooling_supply in
@@ -85,7 +83,7 @@ fixed_active_airflow operating_mode occupied_minimum =
     }
 
 -- `damper`
-unfoldable pub fixed_damper : DamperState → Float → DamperInput → DamperStep
+unfoldable pub fixed_damper : DamperState → Float → DamperInput → Step DamperState DamperOutput
 fixed_damper s t input =
     let supply_warm = greater_hysteretic input.supply_air_temperature input.zone_temperature
     TEMPERATURE_HYSTERESIS s.supply_warm in
@@ -111,7 +109,7 @@ fixed_damper s t input =
       state = record {
         supply_warm = supply_warm;
         integrator = integrator;
-        previous_time = At t;
+        previous_time = Some t;
         previous_fan = input.supply_fan_status;
       };
       output = record {
@@ -124,7 +122,7 @@ fixed_damper s t input =
     }
 
 -- `system_requests`, which has no design flow, and took the start by itself
-unfoldable pub fixed_system_requests : SystemRequestsState → Float → SystemRequestInput → Bool → SystemRequestsStep
+unfoldable pub fixed_system_requests : SystemRequestsState → Float → SystemRequestInput → Bool → Step SystemRequestsState SystemRequestOutput
 fixed_system_requests s t input delay_on_init =
     let temperature_difference = input.zone_temperature ⊖ input.cooling_setpoint in
     let hot_three = hysteresis temperature_difference (decimal 275 100) (decimal 3 1) s.hot_three in
@@ -168,7 +166,7 @@ fixed_system_requests s t input delay_on_init =
     }
 
 -- `alarms`
-unfoldable pub fixed_alarms : AlarmsState → Float → AlarmInput → Bool → AlarmsStep
+unfoldable pub fixed_alarms : AlarmsState → Float → AlarmInput → Bool → Step AlarmsState AlarmOutput
 fixed_alarms s t input delay_on_init =
     let occupied = input.operation_mode ==ᶻ 1 in
     let fan_armed = true_delay s.fan_armed t input.supply_fan_status (decimal 1800 1) false in
@@ -214,7 +212,7 @@ fixed_alarms s t input delay_on_init =
 
 -- ---- the controller
 
-unfoldable pub fixed_controller_output : ControllerState → Float → ControllerInput → Bool → ControllerStep
+unfoldable pub fixed_controller_output : ControllerState → Float → ControllerInput → Bool → Step ControllerState ControllerOutput
 fixed_controller_output s t input delay_on_init =
     let after_suppression = time_suppression s.time_suppression t input.cooling_setpoint input.zone_temperature in
     let loops = control_loops s.control_loops t input.cooling_setpoint input.zone_temperature input.heating_setpoint in
@@ -285,7 +283,7 @@ fixed_controller_output s t input delay_on_init =
 
 pub record FixedBox : Type 0 where
   pub state : ControllerState
-  pub last_time : OptionalTime
+  pub last_time : Option Float
   pub start : Start
 
 pub record FixedBoxStep : Type 0 where
@@ -293,13 +291,13 @@ pub record FixedBoxStep : Type 0 where
   pub answer : Result ControllerOutput Refusal
 
 abbrev pub fixed_fresh_box : Start → FixedBox
-fixed_fresh_box start = record { state = fresh_controller; last_time = Absent; start = start }
+fixed_fresh_box start = record { state = fresh_controller; last_time = None; start = start }
 
 abbrev pub fixed_accepted_tick : FixedBox → Tick → FixedBoxStep
 fixed_accepted_tick box k =
     let step = fixed_controller_output box.state k.t k.input (delay_on_init box.start) in
     record {
-      state = record { state = step.state; last_time = At k.t; start = box.start };
+      state = record { state = step.state; last_time = Some k.t; start = box.start };
       answer = Ok step.output;
     }
 

@@ -1,14 +1,12 @@
 -- Nights of ticks: what a box does along a list of ticks, what a tick carries, and rules over the ticks that were accepted.
 -- A night is a list of ticks in the order in which they come.
 -- Each is run by `tick`, which is what the method `AirBox::tick` is proved to return.
-use Rattle.std.specs.Prelude.{◌≡◌, ◌⊎◌, List, [], ◌∷◌, ◌++◌, ℕ, ◌+◌, ◌≤◌, Bool, not, ℤ, T, Float}
+use Rattle.std.specs.Prelude.{Some, None, Option, ◌≡◌, ◌⊎◌, List, [], ◌∷◌, ◌++◌, ℕ, ◌+◌, ◌≤◌, Bool, not, ℤ, T, Float}
 use Rattle.std.proofs.Common.{inl, inr}
 use Rattle.f64_helpers.specs.F64.{◌⊖◌, ◌>ᶠ◌, decimal}
 use Rattle.f64_helpers.specs.Seconds.{seconds}
 use Rattle.box_choices.specs.declared.Choices.{Choices}
 use Rattle.cdl_recurrences.specs.CdlRecurrences.{greater_hysteretic}
-use Rattle.cdl_recurrences.specs.declared.OptionalTime.{OptionalTime}
-use Rattle.cdl_recurrences.specs.declared.OptionalTime.TheVariants.{Absent, At}
 use Rattle.cooling_only_controller.specs.declared.ControllerOutput.{ControllerOutput}
 use Rattle.air_box.specs.AirBox.{unticked, tick, outputs_or_number}
 use Rattle.air_box.specs.declared.Tick.{Tick}
@@ -56,9 +54,9 @@ Along P earlier [] = Unit
 Along P earlier (s ∷ rest) = P earlier s × Along P (accepted_after earlier s.ticked s.given) rest
 
 -- the time of the last of the accepted ticks
-abbrev pub last_time : List Tick → OptionalTime
-last_time [] = Absent
-last_time (k ∷ []) = At k.t
+abbrev pub last_time : List Tick → Option Float
+last_time [] = None
+last_time (k ∷ []) = Some k.t
 last_time (j ∷ k ∷ ks) = last_time (k ∷ ks)
 
 -- an accepted tick and its own outputs
@@ -108,7 +106,7 @@ abbrev pub flow_high_stepped : Float → Bool → List Tick → Bool
 flow_high_stepped limit high [] = high
 flow_high_stepped limit high (k ∷ ks) = flow_high_stepped limit (greater_hysteretic (flow k) limit (decimal 1 100) high) ks
 
--- At the accepted tick k, before which those of `earlier` were accepted: flow is high with the fan off.
+-- Some the accepted tick k, before which those of `earlier` were accepted: flow is high with the fan off.
 abbrev pub HighFanOff : Float → List Tick → Tick → Type 0
 HighFanOff limit earlier k = FlowHigh limit (earlier ++ (k ∷ [])) × T (not (fan k))
 

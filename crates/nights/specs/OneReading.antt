@@ -9,9 +9,10 @@ use Rattle.cooling_only_controller_timing.specs.Timing.{true_delay}
 use Rattle.cooling_only_controller_airflow.specs.Airflow.{FLOW_HYSTERESIS, DAMPER_POSITION_HYSTERESIS}
 use Rattle.cooling_only_controller_airflow.specs.declared.AlarmInput.{AlarmInput}
 use Rattle.cooling_only_controller_airflow.specs.declared.AlarmsState.{AlarmsState}
-use Rattle.cooling_only_controller_airflow.specs.declared.AlarmsStep.{AlarmsStep}
+use Rattle.cooling_only_controller_airflow.specs.declared.AlarmOutput.{AlarmOutput}
+use Rattle.cooling_only_controller_timing.specs.declared.Step.{Step}
 
-unfoldable pub one_reading_alarms : AlarmsState → Float → AlarmInput → Choices → AlarmsStep
+unfoldable pub one_reading_alarms : AlarmsState → Float → AlarmInput → Choices → Step AlarmsState AlarmOutput
 one_reading_alarms s t input choices =
     let delay_on_init = choices.quiet in
     let occupied = input.operation_mode ==ᶻ 1 in

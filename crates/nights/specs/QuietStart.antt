@@ -15,7 +15,7 @@ use Rattle.cooling_only_controller_timing.specs.Timing.{true_delay}
 use Rattle.cooling_only_controller_airflow.specs.Airflow.{FLOW_HYSTERESIS, DAMPER_POSITION_HYSTERESIS, alarms}
 use Rattle.cooling_only_controller_airflow.specs.declared.AlarmInput.{AlarmInput}
 use Rattle.cooling_only_controller_airflow.specs.declared.AlarmsState.{AlarmsState}
-use Rattle.cooling_only_controller_airflow.specs.declared.AlarmsStep.{AlarmsStep}
+use Rattle.cooling_only_controller_timing.specs.declared.Step.{Step}
 use Rattle.cooling_only_controller.specs.Controller.{controller_output}
 use Rattle.cooling_only_controller.specs.declared.ControllerInput.{ControllerInput}
 use Rattle.cooling_only_controller.specs.declared.ControllerOutput.{ControllerOutput}
@@ -27,12 +27,13 @@ use Rattle.air_box.specs.declared.Tick.{Tick}
 use Rattle.air_box.specs.declared.AirBox.{AirBox}
 use Rattle.air_box.specs.declared.AirBoxStep.{AirBoxStep}
 use Rattle.nights.specs.Nights.{NightStep, steps_by, steps, night_of, box_after, fan}
+use Rattle.cooling_only_controller_airflow.specs.declared.AlarmOutput.{AlarmOutput}
 use Rattle.nights.specs.AlarmsStage.{controller_with, tick_with}
 
 -- ---- the box before N4
 
 -- The alarms stage, `alarms` of Airflow.antt, for any delay_on_init of the arming delay: `arming`.
-unfoldable pub alarms_armed : Bool → AlarmsState → Float → AlarmInput → Choices → AlarmsStep
+unfoldable pub alarms_armed : Bool → AlarmsState → Float → AlarmInput → Choices → Step AlarmsState AlarmOutput
 alarms_armed arming s t input choices =
     let delay_on_init = choices.quiet in
     let occupied = input.operation_mode ==ᶻ 1 in
@@ -81,7 +82,7 @@ alarms_armed arming s t input choices =
     }
 
 -- as it was: the arming delay runs with the delay_on_init of the others
-abbrev pub old_alarms : AlarmsState → Float → AlarmInput → Choices → AlarmsStep
+abbrev pub old_alarms : AlarmsState → Float → AlarmInput → Choices → Step AlarmsState AlarmOutput
 old_alarms s t input choices = alarms_armed choices.quiet s t input choices
 
 -- the box with that stage

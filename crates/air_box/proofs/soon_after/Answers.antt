@@ -3,6 +3,6 @@ use Rattle.std.proofs.Common.{rules}
 use lib.Ieee.{of_bits, round}
 use Rattle.air_box.proofs.soon_after.Goals as goal
 
-pub returns-in-At : goal.returns-in-At
+pub returns : goal.returns
 unfolding of_bits round
-returns-in-At c = search rules
+returns c = search rules
