@@ -1,8 +1,7 @@
 -- The record of a box stands for that box, stage by stage. Assumes nothing.
 use mathlib.Core.Path.{◌≡◌, refl}
+use Rattle.std.specs.Prelude.{Float, Option, Some, None}
 use Rattle.box_choices.specs.declared.Choices.{Choices}
-use Rattle.cdl_recurrences.specs.declared.OptionalTime.{OptionalTime}
-use Rattle.cdl_recurrences.specs.declared.OptionalTime.TheVariants.{Absent, At}
 use Rattle.cooling_only_controller_timing.specs.declared.TrueDelayState.{TrueDelayState}
 use Rattle.cooling_only_controller_timing.specs.declared.TimerState.{TimerState}
 use Rattle.cooling_only_controller_conditioning.specs.declared.TimeSuppressionState.{TimeSuppressionState}
@@ -17,10 +16,10 @@ use Rattle.air_box_c.specs.declared.records.LastTickC.{LastTickC}
 use Rattle.air_box_c.specs.Records.{open_time, shut_time, open_true_delay, shut_true_delay, open_timer, shut_timer, open_time_suppression, shut_time_suppression, open_loop_pi, shut_loop_pi, open_control_loops, shut_control_loops, open_damper, shut_damper, open_system_requests, shut_system_requests, open_alarms, shut_alarms, open_controller, shut_state, open_box, shut_box, fresh_record}
 use Rattle.air_box_c.specs.Promises.{OpenShut}
 
-open_shut_time : (s : OptionalTime) → open_time (shut_time s) ≡ s
+open_shut_time : (s : Option Float) → open_time (shut_time s) ≡ s
 unfolding open_time
-open_shut_time Absent = refl
-open_shut_time (At t) = refl
+open_shut_time None = refl
+open_shut_time (Some t) = refl
 
 open_shut_true_delay : (s : TrueDelayState) → open_true_delay (shut_true_delay s) ≡ s
 unfolding open_true_delay shut_true_delay

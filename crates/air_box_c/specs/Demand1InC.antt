@@ -2,12 +2,11 @@
 -- for every box record, every tick and every output record that do not lie over each other.
 -- That the call ends and does nothing undefined is what the check of `air_box_tick` shows: its contract has no `requires`,
 -- and says that it leaves the records as `Ticked` has them.
-use Rattle.std.specs.Prelude.{ℕ, ◌≡◌, ◌↔◌, not, T, eqb}
+use Rattle.std.specs.Prelude.{Ok, ℕ, ◌≡◌, ◌↔◌, not, T, eqb}
 use Rattle.cooling_only_controller.specs.declared.ControllerOutput.{ControllerOutput}
 use Rattle.air_box.specs.AirBox.{tick, refusal_number}
 use Rattle.air_box.specs.Demand1.{AllYes, FirstNo}
 use Rattle.air_box.specs.declared.Tick.{Tick}
-use Rattle.air_box.specs.declared.Answer.TheVariants.{Accepted}
 use Rattle.air_box.specs.declared.Refusal.{Refusal}
 use Rattle.air_box_c.specs.Records.{open_time, open_box}
 use Rattle.air_box_c.specs.Promises.{Ticked}
@@ -27,7 +26,7 @@ pub record ByNumber (before : AirBoxC) (k : Tick) (old_output : ControllerOutput
   pub refused_changes_nothing : T (not (eqb number 0)) → (after ≡ before) × (output ≡ old_output)
   -- where the number is 0, the one record stands for the next box, and the other holds the ten outputs
   pub accepted_changes_both : T (eqb number 0)
-      → (open_box after ≡ (tick (open_box before) k).state) × ((tick (open_box before) k).answer ≡ Accepted output)
+      → (open_box after ≡ (tick (open_box before) k).state) × ((tick (open_box before) k).answer ≡ Ok output)
 
 abbrev pub Demand1InC : Type 0
 Demand1InC = (before : AirBoxC) (k : Tick) (old_output : ControllerOutput) (after : AirBoxC) (output : ControllerOutput) (number : ℕ)

@@ -1,17 +1,13 @@
 -- What the C interface promises: `air_box_fresh` gives a box as `Fresh` has it, `air_box_build` leaves its record as `BuiltAt` has it,
 -- `air_box_tick` leaves its records as `Ticked` has them, and `air_box_desk_code` gives the box's own `desk_code`.
 -- What `Ticked` says to a caller, number by number, stands in Demand1InC.antt.
-use Rattle.std.specs.Prelude.{ℕ, ◌≡◌}
+use Rattle.std.specs.Prelude.{ℕ, ◌≡◌, ⊤, Result, Ok, Err}
 use Rattle.box_choices.specs.declared.Choices.{Choices}
 use Rattle.cooling_only_controller.specs.declared.ControllerOutput.{ControllerOutput}
 use Rattle.air_box.specs.AirBox.{unticked, build, built_number, tick, questions, accepted_tick, refusal_number}
 use Rattle.air_box.specs.declared.Tick.{Tick}
 use Rattle.air_box.specs.declared.AirBox.{AirBox}
-use Rattle.air_box.specs.declared.Built.TheVariants.{Box}
-use Rattle.air_box.specs.declared.Answer.{Answer}
-use Rattle.air_box.specs.declared.Answer.TheVariants.{Accepted, Refused}
-use Rattle.air_box.specs.declared.Verdict.{Verdict}
-use Rattle.air_box.specs.declared.Verdict.TheVariants.{Accept, Refuse}
+use Rattle.air_box.specs.declared.Refusal.{Refusal}
 use Rattle.air_box_c.specs.Records.{open_time, open_box, shut_box, fresh_record, built_record}
 use Rattle.air_box_c.specs.declared.records.AirBoxC.{AirBoxC}
 
@@ -30,25 +26,25 @@ pub record Fresh (choices : Choices) (r : AirBoxC) : Type 0 where
 -- a refused building leaves the record as it was.
 pub record BuiltAt (before : AirBoxC) (choices : Choices) (after : AirBoxC) (number : ℕ) : Type 0 where
   pub number_told : number ≡ built_number (build choices)
-  pub next_box : (box : AirBox) → build choices ≡ Box box → open_box after ≡ box
+  pub next_box : (box : AirBox) → build choices ≡ Ok box → open_box after ≡ box
   pub every_field : after ≡ built_record (build choices) before
 
 -- ---- a tick
 
 -- the number that is returned: document 01's of a refusal, and 0 for an accepted tick
-abbrev pub answer_number : Answer → ℕ
-answer_number (Accepted output) = 0
-answer_number (Refused reason) = refusal_number reason
+abbrev pub answer_number : Result ControllerOutput Refusal → ℕ
+answer_number (Ok output) = 0
+answer_number (Err reason) = refusal_number reason
 
 -- the output record afterwards: the tick's outputs, or what it was
-abbrev pub answer_output : Answer → ControllerOutput → ControllerOutput
-answer_output (Accepted output) before = output
-answer_output (Refused reason) before = before
+abbrev pub answer_output : Result ControllerOutput Refusal → ControllerOutput → ControllerOutput
+answer_output (Ok output) before = output
+answer_output (Err reason) before = before
 
 -- the box record afterwards, by what the questions decide: that of the next box, or the old one
-abbrev pub decided_record : Verdict → AirBoxC → Tick → AirBoxC
-decided_record Accept c k = shut_box (accepted_tick (open_box c) k).state
-decided_record (Refuse reason) c k = c
+abbrev pub decided_record : Result ⊤ Refusal → AirBoxC → Tick → AirBoxC
+decided_record (Ok tt) c k = shut_box (accepted_tick (open_box c) k).state
+decided_record (Err reason) c k = c
 
 -- the record `after` stands for the box that the tick gives from that of `before`, and the number and the output after it are those of its
 -- answer; a refused tick leaves both records as they were, and an accepted one settles every field, a NaN as being one

@@ -1,10 +1,8 @@
 -- The records of the C interface: what state each stands for (`open`), and the record of a state (`shut`), from the time to the box.
 -- An absent time is the flag false; the number beside it then has no meaning, and `shut` writes 0 there.
-use Rattle.std.specs.Prelude.{true, false, if◌then◌else◌}
+use Rattle.std.specs.Prelude.{true, false, Float, Option, Some, None, Result, Ok, Err, if◌then◌else◌}
 use Rattle.f64_helpers.specs.F64.{zero}
 use Rattle.box_choices.specs.declared.Choices.{Choices}
-use Rattle.cdl_recurrences.specs.declared.OptionalTime.{OptionalTime}
-use Rattle.cdl_recurrences.specs.declared.OptionalTime.TheVariants.{Absent, At}
 use Rattle.cooling_only_controller_timing.specs.declared.TrueDelayState.{TrueDelayState}
 use Rattle.cooling_only_controller_timing.specs.declared.TimerState.{TimerState}
 use Rattle.cooling_only_controller_conditioning.specs.declared.TimeSuppressionState.{TimeSuppressionState}
@@ -17,10 +15,8 @@ use Rattle.cooling_only_controller_airflow.specs.declared.SystemRequestsState.{S
 use Rattle.cooling_only_controller_airflow.specs.declared.AlarmsState.{AlarmsState}
 use Rattle.cooling_only_controller.specs.declared.ControllerState.{ControllerState}
 use Rattle.cooling_only_controller.specs.Controller.{fresh_controller}
-use Rattle.air_box.specs.AirBox.{build, built_number}
 use Rattle.air_box.specs.declared.AirBox.{AirBox}
-use Rattle.air_box.specs.declared.Built.{Built}
-use Rattle.air_box.specs.declared.Built.TheVariants.{Box, Refused}
+use Rattle.air_box.specs.declared.BuildRefusal.{BuildRefusal}
 use Rattle.air_box_c.specs.declared.records.OptionalTimeC.{OptionalTimeC}
 use Rattle.air_box_c.specs.declared.records.TrueDelayC.{TrueDelayC}
 use Rattle.air_box_c.specs.declared.records.TimerC.{TimerC}
@@ -33,14 +29,13 @@ use Rattle.air_box_c.specs.declared.records.AlarmsC.{AlarmsC}
 use Rattle.air_box_c.specs.declared.records.AirflowC.{AirflowC}
 use Rattle.air_box_c.specs.declared.records.LastTickC.{LastTickC}
 use Rattle.air_box_c.specs.declared.records.AirBoxC.{AirBoxC}
-use Rattle.air_box_c.specs.declared.records.BuiltC.{BuiltC}
 
-unfoldable pub open_time : OptionalTimeC → OptionalTime
-open_time c = if c.present then At c.time else Absent
+unfoldable pub open_time : OptionalTimeC → Option Float
+open_time c = if c.present then Some c.time else None
 
-abbrev pub shut_time : OptionalTime → OptionalTimeC
-shut_time Absent = record { present = false; time = zero }
-shut_time (At t) = record { present = true; time = t }
+abbrev pub shut_time : Option Float → OptionalTimeC
+shut_time None = record { present = false; time = zero }
+shut_time (Some t) = record { present = true; time = t }
 
 unfoldable pub open_true_delay : TrueDelayC → TrueDelayState
 open_true_delay c = record {
@@ -260,13 +255,9 @@ shut_box box = shut_state box.state (record { time = shut_time box.last_time; ch
 
 -- the record of a box that has had no tick
 abbrev pub fresh_record : Choices → AirBoxC
-fresh_record choices = shut_state fresh_controller (record { time = shut_time Absent; choices = choices })
+fresh_record choices = shut_state fresh_controller (record { time = shut_time None; choices = choices })
 
 -- what building leaves where the record c stood: that of the box, or c
-abbrev pub built_record : Built → AirBoxC → AirBoxC
-built_record (Box box) c = shut_box box
-built_record Refused c = c
-
--- the number of what building gives, and the record of a box with these choices, built or not
-abbrev pub built : Choices → BuiltC
-built choices = record { number = built_number (build choices); state = fresh_record choices }
+abbrev pub built_record : Result AirBox BuildRefusal → AirBoxC → AirBoxC
+built_record (Ok box) c = shut_box box
+built_record (Err refusal) c = c

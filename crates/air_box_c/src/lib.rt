@@ -9,10 +9,10 @@ ghost use Rattle.air_box_c.specs.Promises as Promises;
 pub mod records;
 mod stages;
 
-use air_box::Tick;
+use air_box::{AirBox, Tick};
 use box_choices::Choices;
 use cooling_only_controller::ControllerOutput;
-use records::{AirBoxC, BuiltC};
+use records::AirBoxC;
 
 // A box that has had no tick, with the usual design flows and the first reading.
 #[unsafe(no_mangle)]
@@ -28,11 +28,13 @@ pub extern "C" fn air_box_fresh(quiet: bool) -> AirBoxC
 pub extern "C" fn air_box_build(b: &mut AirBoxC, choices: Choices) -> u8
     ensures { Promises.BuiltAt b.old choices b.new result }
 {
-    let built = BuiltC::of(choices);
-    if built.number == 0 {
-        *b = built.state;
+    match AirBox::build(choices) {
+        Ok(_) => {
+            *b = AirBoxC::fresh(choices);
+            0
+        }
+        Err(refusal) => refusal.into(),
     }
-    built.number
 }
 
 // One tick of the box at b: 0, the next box and its outputs; or the number of the refusal, with box and output as they were.
@@ -42,21 +44,23 @@ pub extern "C" fn air_box_build(b: &mut AirBoxC, choices: Choices) -> u8
 pub extern "C" fn air_box_tick(b: &mut AirBoxC, tick: &Tick, output: &mut ControllerOutput) -> u8
     ensures { Promises.Ticked b.old tick.now output.old b.new output.new result }
 {
-    let questioned = b.last.question(*tick);
-    if questioned.number == 0 {
-        let suppression = b.time_suppression.tick(questioned.next);
-        b.time_suppression = suppression.state;
-        let airflow = b.airflow.tick(suppression.next);
-        b.airflow = airflow.state;
-        let requests = b.system_requests.tick(airflow.next);
-        b.system_requests = requests.state;
-        let alarms = b.alarms.tick(requests.next);
-        b.alarms = alarms.state;
-        let last = b.last.tick(alarms.next);
-        b.last = last.state;
-        *output = last.output;
+    match b.last.question(*tick) {
+        Ok(start) => {
+            let suppression = b.time_suppression.tick(start);
+            b.time_suppression = suppression.state;
+            let airflow = b.airflow.tick(suppression.output);
+            b.airflow = airflow.state;
+            let requests = b.system_requests.tick(airflow.output);
+            b.system_requests = requests.state;
+            let alarms = b.alarms.tick(requests.output);
+            b.alarms = alarms.state;
+            let last = b.last.tick(alarms.output);
+            b.last = last.state;
+            *output = last.output;
+            0
+        }
+        Err(reason) => reason.into(),
     }
-    questioned.number
 }
 
 // One number from the three alarms.

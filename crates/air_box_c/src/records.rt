@@ -1,11 +1,9 @@
 // The records of the C interface: one for each stage record that holds a time, and the box as a record of them.
-// `open` gives the state that a record stands for, and `shut` the record of a state.
+// A record converts into the state that it stands for (`open` in the definitions), and a state into its record (`shut`).
 ghost use Rattle.std.specs.Prelude.{◌≡◌};
 ghost use Rattle.air_box_c.specs.Records as Records;
 
-use air_box::AirBox;
 use box_choices::Choices;
-use cdl_recurrences::OptionalTime;
 use cooling_only_controller::ControllerState;
 use cooling_only_controller_airflow::{AlarmsState, DamperState, SystemRequestsState};
 use cooling_only_controller_conditioning::{
@@ -14,7 +12,7 @@ use cooling_only_controller_conditioning::{
 };
 use cooling_only_controller_timing::{SamplerState, TimerState, TrueDelayState, UnitDelayState};
 
-// `OptionalTime`: whether there is a time, and the time. Where there is none, `time` has no meaning.
+// `Option<f64>`, of a time: whether there is a time, and the time. Where there is none, `time` has no meaning.
 #[repr(C)]
 #[derive(Clone, Copy)]
 pub struct OptionalTimeC {
@@ -22,29 +20,22 @@ pub struct OptionalTimeC {
     pub time: f64,
 }
 
-impl OptionalTimeC {
-    pub fn open(self) -> OptionalTime
-        ensures { result ≡ Records.open_time self }
-    {
-        if self.present {
-            OptionalTime::At(self.time)
-        } else {
-            OptionalTime::Absent
-        }
-    }
+impl From<OptionalTimeC> for Option<f64> {
+    ghost from_gives = { λ c s. s ≡ Records.open_time c };
 
-    pub fn shut(s: OptionalTime) -> OptionalTimeC
-        ensures { result ≡ Records.shut_time s }
-    {
-        match s {
-            OptionalTime::Absent => OptionalTimeC {
-                present: false,
-                time: 0.0,
-            },
-            OptionalTime::At(time) => OptionalTimeC {
-                present: true,
-                time,
-            },
+    #[tactic(auto, unfolding(crate::specs::Records::open_time))]
+    fn from(c: OptionalTimeC) -> Option<f64> {
+        c.present.then_some(c.time)
+    }
+}
+
+impl From<Option<f64>> for OptionalTimeC {
+    ghost from_gives = { λ s c. c ≡ Records.shut_time s };
+
+    fn from(s: Option<f64>) -> OptionalTimeC {
+        OptionalTimeC {
+            present: s.is_some(),
+            time: s.unwrap_or(0.0),
         }
     }
 }
@@ -59,26 +50,27 @@ pub struct TrueDelayC {
     pub timer: f64,
 }
 
-impl TrueDelayC {
-    pub fn open(self) -> TrueDelayState
-        ensures { result ≡ Records.open_true_delay self }
-    {
-        let previous_time = self.previous_time.open();
+impl From<TrueDelayC> for TrueDelayState {
+    ghost from_gives = { λ c s. s ≡ Records.open_true_delay c };
+
+    #[tactic(auto, unfolding(crate::specs::Records::open_true_delay))]
+    fn from(c: TrueDelayC) -> TrueDelayState {
         TrueDelayState {
-            previous_time,
-            previous_input: self.previous_input,
-            held: self.held,
-            timer: self.timer,
+            previous_time: c.previous_time.into(),
+            previous_input: c.previous_input,
+            held: c.held,
+            timer: c.timer,
         }
     }
+}
 
-    pub fn shut(s: TrueDelayState) -> TrueDelayC
-        ensures { result ≡ Records.shut_true_delay s }
-    {
-        let time = s.previous_time;
-        let previous_time = OptionalTimeC::shut(time);
+impl From<TrueDelayState> for TrueDelayC {
+    ghost from_gives = { λ s c. c ≡ Records.shut_true_delay s };
+
+    #[tactic(auto, unfolding(crate::specs::Records::shut_true_delay))]
+    fn from(s: TrueDelayState) -> TrueDelayC {
         TrueDelayC {
-            previous_time,
+            previous_time: s.previous_time.into(),
             previous_input: s.previous_input,
             held: s.held,
             timer: s.timer,
@@ -94,24 +86,25 @@ pub struct TimerC {
     pub previous_input: bool,
 }
 
-impl TimerC {
-    pub fn open(self) -> TimerState
-        ensures { result ≡ Records.open_timer self }
-    {
-        let entry_time = self.entry_time.open();
+impl From<TimerC> for TimerState {
+    ghost from_gives = { λ c s. s ≡ Records.open_timer c };
+
+    #[tactic(auto, unfolding(crate::specs::Records::open_timer))]
+    fn from(c: TimerC) -> TimerState {
         TimerState {
-            entry_time,
-            previous_input: self.previous_input,
+            entry_time: c.entry_time.into(),
+            previous_input: c.previous_input,
         }
     }
+}
 
-    pub fn shut(s: TimerState) -> TimerC
-        ensures { result ≡ Records.shut_timer s }
-    {
-        let time = s.entry_time;
-        let entry_time = OptionalTimeC::shut(time);
+impl From<TimerState> for TimerC {
+    ghost from_gives = { λ s c. c ≡ Records.shut_timer s };
+
+    #[tactic(auto, unfolding(crate::specs::Records::shut_timer))]
+    fn from(s: TimerState) -> TimerC {
         TimerC {
-            entry_time,
+            entry_time: s.entry_time.into(),
             previous_input: s.previous_input,
         }
     }
@@ -134,48 +127,40 @@ pub struct TimeSuppressionC {
     pub captured_zone: f64,
 }
 
-impl TimeSuppressionC {
-    pub fn open(self) -> TimeSuppressionState
-        ensures { result ≡ Records.open_time_suppression self }
-    {
-        let setpoint_sampler = self.setpoint_sampler;
-        let previous_sample = self.previous_sample;
-        let startup_delay = self.startup_delay.open();
-        let suppression_latch = self.suppression_latch;
-        let passed_latch = self.passed_latch;
-        let timer = self.timer.open();
+impl From<TimeSuppressionC> for TimeSuppressionState {
+    ghost from_gives = { λ c s. s ≡ Records.open_time_suppression c };
+
+    #[tactic(auto, unfolding(crate::specs::Records::open_time_suppression))]
+    fn from(c: TimeSuppressionC) -> TimeSuppressionState {
         TimeSuppressionState {
-            setpoint_sampler,
-            previous_sample,
-            startup_delay,
-            change_detected: self.change_detected,
-            suppression_latch,
-            passed_latch,
-            timer,
-            previous_active: self.previous_active,
-            previous_passed: self.previous_passed,
-            captured_setpoint: self.captured_setpoint,
-            captured_zone: self.captured_zone,
+            setpoint_sampler: c.setpoint_sampler,
+            previous_sample: c.previous_sample,
+            startup_delay: c.startup_delay.into(),
+            change_detected: c.change_detected,
+            suppression_latch: c.suppression_latch,
+            passed_latch: c.passed_latch,
+            timer: c.timer.into(),
+            previous_active: c.previous_active,
+            previous_passed: c.previous_passed,
+            captured_setpoint: c.captured_setpoint,
+            captured_zone: c.captured_zone,
         }
     }
+}
 
-    pub fn shut(s: TimeSuppressionState) -> TimeSuppressionC
-        ensures { result ≡ Records.shut_time_suppression s }
-    {
-        let setpoint_sampler = s.setpoint_sampler;
-        let previous_sample = s.previous_sample;
-        let startup_delay = TrueDelayC::shut(s.startup_delay);
-        let suppression_latch = s.suppression_latch;
-        let passed_latch = s.passed_latch;
-        let timer = TimerC::shut(s.timer);
+impl From<TimeSuppressionState> for TimeSuppressionC {
+    ghost from_gives = { λ s c. c ≡ Records.shut_time_suppression s };
+
+    #[tactic(auto, unfolding(crate::specs::Records::shut_time_suppression))]
+    fn from(s: TimeSuppressionState) -> TimeSuppressionC {
         TimeSuppressionC {
-            setpoint_sampler,
-            previous_sample,
-            startup_delay,
+            setpoint_sampler: s.setpoint_sampler,
+            previous_sample: s.previous_sample,
+            startup_delay: s.startup_delay.into(),
             change_detected: s.change_detected,
-            suppression_latch,
-            passed_latch,
-            timer,
+            suppression_latch: s.suppression_latch,
+            passed_latch: s.passed_latch,
+            timer: s.timer.into(),
             previous_active: s.previous_active,
             previous_passed: s.previous_passed,
             captured_setpoint: s.captured_setpoint,
@@ -193,26 +178,27 @@ pub struct LoopPiC {
     pub previous_trigger: bool,
 }
 
-impl LoopPiC {
-    pub fn open(self) -> LoopPiState
-        ensures { result ≡ Records.open_loop_pi self }
-    {
-        let previous_time = self.previous_time.open();
+impl From<LoopPiC> for LoopPiState {
+    ghost from_gives = { λ c s. s ≡ Records.open_loop_pi c };
+
+    #[tactic(auto, unfolding(crate::specs::Records::open_loop_pi))]
+    fn from(c: LoopPiC) -> LoopPiState {
         LoopPiState {
-            integrator: self.integrator,
-            previous_time,
-            previous_trigger: self.previous_trigger,
+            integrator: c.integrator,
+            previous_time: c.previous_time.into(),
+            previous_trigger: c.previous_trigger,
         }
     }
+}
 
-    pub fn shut(s: LoopPiState) -> LoopPiC
-        ensures { result ≡ Records.shut_loop_pi s }
-    {
-        let time = s.previous_time;
-        let previous_time = OptionalTimeC::shut(time);
+impl From<LoopPiState> for LoopPiC {
+    ghost from_gives = { λ s c. c ≡ Records.shut_loop_pi s };
+
+    #[tactic(auto, unfolding(crate::specs::Records::shut_loop_pi))]
+    fn from(s: LoopPiState) -> LoopPiC {
         LoopPiC {
             integrator: s.integrator,
-            previous_time,
+            previous_time: s.previous_time.into(),
             previous_trigger: s.previous_trigger,
         }
     }
@@ -232,42 +218,38 @@ pub struct ControlLoopsC {
     pub heating_delay: TrueDelayC,
 }
 
-impl ControlLoopsC {
-    pub fn open(self) -> ControlLoopsState
-        ensures { result ≡ Records.open_control_loops self }
-    {
-        let cooling_pi = self.cooling_pi.open();
-        let heating_pi = self.heating_pi.open();
-        let cooling_delay = self.cooling_delay.open();
-        let heating_delay = self.heating_delay.open();
+impl From<ControlLoopsC> for ControlLoopsState {
+    ghost from_gives = { λ c s. s ≡ Records.open_control_loops c };
+
+    #[tactic(auto, unfolding(crate::specs::Records::open_control_loops))]
+    fn from(c: ControlLoopsC) -> ControlLoopsState {
         ControlLoopsState {
-            cooling_enable: self.cooling_enable,
-            heating_enable: self.heating_enable,
-            cooling_pi,
-            heating_pi,
-            cooling_near_zero: self.cooling_near_zero,
-            heating_near_zero: self.heating_near_zero,
-            cooling_delay,
-            heating_delay,
+            cooling_enable: c.cooling_enable,
+            heating_enable: c.heating_enable,
+            cooling_pi: c.cooling_pi.into(),
+            heating_pi: c.heating_pi.into(),
+            cooling_near_zero: c.cooling_near_zero,
+            heating_near_zero: c.heating_near_zero,
+            cooling_delay: c.cooling_delay.into(),
+            heating_delay: c.heating_delay.into(),
         }
     }
+}
 
-    pub fn shut(s: ControlLoopsState) -> ControlLoopsC
-        ensures { result ≡ Records.shut_control_loops s }
-    {
-        let cooling_pi = LoopPiC::shut(s.cooling_pi);
-        let heating_pi = LoopPiC::shut(s.heating_pi);
-        let cooling_delay = TrueDelayC::shut(s.cooling_delay);
-        let heating_delay = TrueDelayC::shut(s.heating_delay);
+impl From<ControlLoopsState> for ControlLoopsC {
+    ghost from_gives = { λ s c. c ≡ Records.shut_control_loops s };
+
+    #[tactic(auto, unfolding(crate::specs::Records::shut_control_loops))]
+    fn from(s: ControlLoopsState) -> ControlLoopsC {
         ControlLoopsC {
             cooling_enable: s.cooling_enable,
             heating_enable: s.heating_enable,
-            cooling_pi,
-            heating_pi,
+            cooling_pi: s.cooling_pi.into(),
+            heating_pi: s.heating_pi.into(),
             cooling_near_zero: s.cooling_near_zero,
             heating_near_zero: s.heating_near_zero,
-            cooling_delay,
-            heating_delay,
+            cooling_delay: s.cooling_delay.into(),
+            heating_delay: s.heating_delay.into(),
         }
     }
 }
@@ -282,28 +264,29 @@ pub struct DamperC {
     pub previous_fan: bool,
 }
 
-impl DamperC {
-    pub fn open(self) -> DamperState
-        ensures { result ≡ Records.open_damper self }
-    {
-        let previous_time = self.previous_time.open();
+impl From<DamperC> for DamperState {
+    ghost from_gives = { λ c s. s ≡ Records.open_damper c };
+
+    #[tactic(auto, unfolding(crate::specs::Records::open_damper))]
+    fn from(c: DamperC) -> DamperState {
         DamperState {
-            supply_warm: self.supply_warm,
-            integrator: self.integrator,
-            previous_time,
-            previous_fan: self.previous_fan,
+            supply_warm: c.supply_warm,
+            integrator: c.integrator,
+            previous_time: c.previous_time.into(),
+            previous_fan: c.previous_fan,
         }
     }
+}
 
-    pub fn shut(s: DamperState) -> DamperC
-        ensures { result ≡ Records.shut_damper s }
-    {
-        let time = s.previous_time;
-        let previous_time = OptionalTimeC::shut(time);
+impl From<DamperState> for DamperC {
+    ghost from_gives = { λ s c. c ≡ Records.shut_damper s };
+
+    #[tactic(auto, unfolding(crate::specs::Records::shut_damper))]
+    fn from(s: DamperState) -> DamperC {
         DamperC {
             supply_warm: s.supply_warm,
             integrator: s.integrator,
-            previous_time,
+            previous_time: s.previous_time.into(),
             previous_fan: s.previous_fan,
         }
     }
@@ -329,58 +312,48 @@ pub struct SystemRequestsC {
     pub starved_seventy: bool,
 }
 
-impl SystemRequestsC {
-    pub fn open(self) -> SystemRequestsState
-        ensures { result ≡ Records.open_system_requests self }
-    {
-        let hot_three_delay = self.hot_three_delay.open();
-        let hot_two_delay = self.hot_two_delay.open();
-        let cooling_sampler = self.cooling_sampler;
-        let setpoint_sampler = self.setpoint_sampler;
-        let discharge_sampler = self.discharge_sampler;
-        let damper_sampler = self.damper_sampler;
-        let damper_delay = self.damper_delay.open();
+impl From<SystemRequestsC> for SystemRequestsState {
+    ghost from_gives = { λ c s. s ≡ Records.open_system_requests c };
+
+    #[tactic(auto, unfolding(crate::specs::Records::open_system_requests))]
+    fn from(c: SystemRequestsC) -> SystemRequestsState {
         SystemRequestsState {
-            hot_three: self.hot_three,
-            hot_two: self.hot_two,
-            hot_three_delay,
-            hot_two_delay,
-            cooling_sampler,
-            setpoint_sampler,
-            discharge_sampler,
-            damper_sampler,
-            cooling_high: self.cooling_high,
-            setpoint_on: self.setpoint_on,
-            damper_high: self.damper_high,
-            damper_delay,
-            starved_half: self.starved_half,
-            starved_seventy: self.starved_seventy,
+            hot_three: c.hot_three,
+            hot_two: c.hot_two,
+            hot_three_delay: c.hot_three_delay.into(),
+            hot_two_delay: c.hot_two_delay.into(),
+            cooling_sampler: c.cooling_sampler,
+            setpoint_sampler: c.setpoint_sampler,
+            discharge_sampler: c.discharge_sampler,
+            damper_sampler: c.damper_sampler,
+            cooling_high: c.cooling_high,
+            setpoint_on: c.setpoint_on,
+            damper_high: c.damper_high,
+            damper_delay: c.damper_delay.into(),
+            starved_half: c.starved_half,
+            starved_seventy: c.starved_seventy,
         }
     }
+}
 
-    pub fn shut(s: SystemRequestsState) -> SystemRequestsC
-        ensures { result ≡ Records.shut_system_requests s }
-    {
-        let hot_three_delay = TrueDelayC::shut(s.hot_three_delay);
-        let hot_two_delay = TrueDelayC::shut(s.hot_two_delay);
-        let cooling_sampler = s.cooling_sampler;
-        let setpoint_sampler = s.setpoint_sampler;
-        let discharge_sampler = s.discharge_sampler;
-        let damper_sampler = s.damper_sampler;
-        let damper_delay = TrueDelayC::shut(s.damper_delay);
+impl From<SystemRequestsState> for SystemRequestsC {
+    ghost from_gives = { λ s c. c ≡ Records.shut_system_requests s };
+
+    #[tactic(auto, unfolding(crate::specs::Records::shut_system_requests))]
+    fn from(s: SystemRequestsState) -> SystemRequestsC {
         SystemRequestsC {
             hot_three: s.hot_three,
             hot_two: s.hot_two,
-            hot_three_delay,
-            hot_two_delay,
-            cooling_sampler,
-            setpoint_sampler,
-            discharge_sampler,
-            damper_sampler,
+            hot_three_delay: s.hot_three_delay.into(),
+            hot_two_delay: s.hot_two_delay.into(),
+            cooling_sampler: s.cooling_sampler,
+            setpoint_sampler: s.setpoint_sampler,
+            discharge_sampler: s.discharge_sampler,
+            damper_sampler: s.damper_sampler,
             cooling_high: s.cooling_high,
             setpoint_on: s.setpoint_on,
             damper_high: s.damper_high,
-            damper_delay,
+            damper_delay: s.damper_delay.into(),
             starved_half: s.starved_half,
             starved_seventy: s.starved_seventy,
         }
@@ -404,52 +377,44 @@ pub struct AlarmsC {
     pub leak_delay: TrueDelayC,
 }
 
-impl AlarmsC {
-    pub fn open(self) -> AlarmsState
-        ensures { result ≡ Records.open_alarms self }
-    {
-        let fan_armed = self.fan_armed.open();
-        let setpoint_on = self.setpoint_on.open();
-        let low_half_delay = self.low_half_delay.open();
-        let low_seventy_delay = self.low_seventy_delay.open();
-        let sensor_delay = self.sensor_delay.open();
-        let leak_delay = self.leak_delay.open();
+impl From<AlarmsC> for AlarmsState {
+    ghost from_gives = { λ c s. s ≡ Records.open_alarms c };
+
+    #[tactic(auto, unfolding(crate::specs::Records::open_alarms))]
+    fn from(c: AlarmsC) -> AlarmsState {
         AlarmsState {
-            fan_armed,
-            setpoint_nonzero: self.setpoint_nonzero,
-            setpoint_on,
-            low_half: self.low_half,
-            low_seventy: self.low_seventy,
-            low_half_delay,
-            low_seventy_delay,
-            flow_high: self.flow_high,
-            sensor_delay,
-            damper_closed: self.damper_closed,
-            leak_delay,
+            fan_armed: c.fan_armed.into(),
+            setpoint_nonzero: c.setpoint_nonzero,
+            setpoint_on: c.setpoint_on.into(),
+            low_half: c.low_half,
+            low_seventy: c.low_seventy,
+            low_half_delay: c.low_half_delay.into(),
+            low_seventy_delay: c.low_seventy_delay.into(),
+            flow_high: c.flow_high,
+            sensor_delay: c.sensor_delay.into(),
+            damper_closed: c.damper_closed,
+            leak_delay: c.leak_delay.into(),
         }
     }
+}
 
-    pub fn shut(s: AlarmsState) -> AlarmsC
-        ensures { result ≡ Records.shut_alarms s }
-    {
-        let fan_armed = TrueDelayC::shut(s.fan_armed);
-        let setpoint_on = TrueDelayC::shut(s.setpoint_on);
-        let low_half_delay = TrueDelayC::shut(s.low_half_delay);
-        let low_seventy_delay = TrueDelayC::shut(s.low_seventy_delay);
-        let sensor_delay = TrueDelayC::shut(s.sensor_delay);
-        let leak_delay = TrueDelayC::shut(s.leak_delay);
+impl From<AlarmsState> for AlarmsC {
+    ghost from_gives = { λ s c. c ≡ Records.shut_alarms s };
+
+    #[tactic(auto, unfolding(crate::specs::Records::shut_alarms))]
+    fn from(s: AlarmsState) -> AlarmsC {
         AlarmsC {
-            fan_armed,
+            fan_armed: s.fan_armed.into(),
             setpoint_nonzero: s.setpoint_nonzero,
-            setpoint_on,
+            setpoint_on: s.setpoint_on.into(),
             low_half: s.low_half,
             low_seventy: s.low_seventy,
-            low_half_delay,
-            low_seventy_delay,
+            low_half_delay: s.low_half_delay.into(),
+            low_seventy_delay: s.low_seventy_delay.into(),
             flow_high: s.flow_high,
-            sensor_delay,
+            sensor_delay: s.sensor_delay.into(),
             damper_closed: s.damper_closed,
-            leak_delay,
+            leak_delay: s.leak_delay.into(),
         }
     }
 }
@@ -473,13 +438,11 @@ impl AirflowC {
     ) -> AirflowC
         ensures { result ≡ Records.shut_airflow loops setpoints zone_states damper }
     {
-        let control_loops = ControlLoopsC::shut(loops);
-        let dampers = DamperC::shut(damper);
         AirflowC {
-            control_loops,
+            control_loops: loops.into(),
             setpoints,
             zone_states,
-            dampers,
+            dampers: damper.into(),
         }
     }
 }
@@ -503,41 +466,21 @@ pub struct AirBoxC {
     pub last: LastTickC,
 }
 
-// The number that building gives, and the record of a box with these choices, which is stored only where the number is 0.
-#[derive(Clone, Copy)]
-pub struct BuiltC {
-    pub number: u8,
-    pub state: AirBoxC,
-}
-
 impl AirBoxC {
     // The record of a box that has had no tick.
     pub fn fresh(choices: Choices) -> AirBoxC
         ensures { result ≡ Records.fresh_record choices }
     {
         let s = ControllerState::fresh();
-        let time_suppression = TimeSuppressionC::shut(s.time_suppression);
-        let airflow = AirflowC::shut(s.control_loops, s.setpoints, s.zone_states, s.dampers);
-        let system_requests = SystemRequestsC::shut(s.system_requests);
-        let alarms = AlarmsC::shut(s.alarms);
-        let time = OptionalTimeC::shut(OptionalTime::Absent);
         AirBoxC {
-            time_suppression,
-            airflow,
-            system_requests,
-            alarms,
-            last: LastTickC { time, choices },
+            time_suppression: s.time_suppression.into(),
+            airflow: AirflowC::shut(s.control_loops, s.setpoints, s.zone_states, s.dampers),
+            system_requests: s.system_requests.into(),
+            alarms: s.alarms.into(),
+            last: LastTickC {
+                time: None.into(),
+                choices,
+            },
         }
-    }
-}
-
-impl BuiltC {
-    pub fn of(choices: Choices) -> BuiltC
-        ensures { result ≡ Records.built choices }
-    {
-        let built = AirBox::build(choices);
-        let number = built.number();
-        let state = AirBoxC::fresh(choices);
-        BuiltC { number, state }
     }
 }

@@ -3,21 +3,17 @@
 ghost use Rattle.std.specs.Prelude.{◌≡◌};
 ghost use Rattle.air_box_c.specs.Stages as Stages;
 
-use super::records::{
-    AirflowC, AlarmsC, LastTickC, OptionalTimeC, SystemRequestsC, TimeSuppressionC,
-};
-use air_box::{Tick, Verdict};
+use super::records::{AirflowC, AlarmsC, LastTickC, SystemRequestsC, TimeSuppressionC};
+use air_box::{Refusal, Tick};
 use box_choices::Choices;
-use cooling_only_controller::{AirflowSteps, ControllerOutput};
-use cooling_only_controller_airflow::{DamperOutput, SystemRequestOutput};
-use cooling_only_controller_conditioning::{ControlLoopOutput, SetpointOutput};
-
-// The number of the first question that gets a "no", 0 where none does, and what the stages begin with.
-#[derive(Clone, Copy)]
-pub struct Questioned {
-    pub number: u8,
-    pub next: TickStart,
-}
+use cooling_only_controller::ControllerOutput;
+use cooling_only_controller_airflow::{
+    AlarmsState, DamperOutput, SystemRequestOutput, SystemRequestsState,
+};
+use cooling_only_controller_conditioning::{
+    ControlLoopOutput, SetpointOutput, TimeSuppressionState,
+};
+use cooling_only_controller_timing::Step;
 
 // What is handed on: the tick and the box's choices, and then, at each stage, what it knows of those before it. Only the stages look inside.
 #[derive(Clone, Copy)]
@@ -26,65 +22,10 @@ pub struct TickStart {
     choices: Choices,
 }
 
-impl LastTickC {
-    pub fn question(self, tick: Tick) -> Questioned
-        ensures { result ≡ Stages.questioned self tick }
-    {
-        let last_time = self.time.open();
-        let verdict = air_box::questions(last_time, tick);
-        let number = verdict_number(verdict);
-        let choices = self.choices;
-        Questioned {
-            number,
-            next: TickStart { tick, choices },
-        }
-    }
-}
-
-fn verdict_number(verdict: Verdict) -> u8
-    ensures { result ≡ Stages.verdict_number verdict }
-{
-    match verdict {
-        Verdict::Accept => 0,
-        Verdict::Refuse(reason) => reason.number(),
-    }
-}
-
-#[derive(Clone, Copy)]
-pub struct SuppressionTick {
-    pub state: TimeSuppressionC,
-    pub next: AfterSuppression,
-}
-
 #[derive(Clone, Copy)]
 pub struct AfterSuppression {
     start: TickStart,
     after_suppression: bool,
-}
-
-impl TimeSuppressionC {
-    pub fn tick(self, start: TickStart) -> SuppressionTick
-        ensures { result ≡ Stages.suppression_tick self start }
-    {
-        let tick = start.tick;
-        let input = tick.input;
-        let s = self.open();
-        let step = s.output(tick.t, input.cooling_setpoint, input.zone_temperature);
-        let state = TimeSuppressionC::shut(step.state);
-        SuppressionTick {
-            state,
-            next: AfterSuppression {
-                start,
-                after_suppression: step.output,
-            },
-        }
-    }
-}
-
-#[derive(Clone, Copy)]
-pub struct AirflowTick {
-    pub state: AirflowC,
-    pub next: AfterDampers,
 }
 
 #[derive(Clone, Copy)]
@@ -95,98 +36,10 @@ pub struct AfterDampers {
     damper: DamperOutput,
 }
 
-impl AirflowC {
-    pub fn tick(self, suppression: AfterSuppression) -> AirflowTick
-        ensures { result ≡ Stages.airflow_tick self suppression }
-    {
-        let start = suppression.start;
-        let tick = start.tick;
-        let input = tick.input;
-        let choices = start.choices;
-        let control_loops = self.control_loops.open();
-        let setpoints = self.setpoints;
-        let zone_states = self.zone_states;
-        let dampers = self.dampers.open();
-        let steps = cooling_only_controller::airflow_steps(
-            tick.t,
-            input,
-            choices,
-            control_loops,
-            setpoints,
-            zone_states,
-            dampers,
-        );
-        airflow_ticked(suppression, steps)
-    }
-}
-
-// The part after the tick and what is handed on, put together.
-fn airflow_ticked(suppression: AfterSuppression, steps: AirflowSteps) -> AirflowTick
-    ensures { result ≡ Stages.airflow_ticked suppression steps }
-{
-    let loops = steps.loops;
-    let flows = steps.setpoints;
-    let zone = steps.zone;
-    let damper = steps.damper;
-    let state = AirflowC::shut(loops.state, flows.state, zone.state, damper.state);
-    let loops_output = loops.output;
-    let flows_output = flows.output;
-    let damper_output = damper.output;
-    AirflowTick {
-        state,
-        next: AfterDampers {
-            suppression,
-            loops: loops_output,
-            flows: flows_output,
-            damper: damper_output,
-        },
-    }
-}
-
-#[derive(Clone, Copy)]
-pub struct RequestsTick {
-    pub state: SystemRequestsC,
-    pub next: AfterRequests,
-}
-
 #[derive(Clone, Copy)]
 pub struct AfterRequests {
     airflow: AfterDampers,
     requests: SystemRequestOutput,
-}
-
-impl SystemRequestsC {
-    pub fn tick(self, airflow: AfterDampers) -> RequestsTick
-        ensures { result ≡ Stages.requests_tick self airflow }
-    {
-        let suppression = airflow.suppression;
-        let start = suppression.start;
-        let tick = start.tick;
-        let input = tick.input;
-        let choices = start.choices;
-        let loops = airflow.loops;
-        let damper = airflow.damper;
-        let s = self.open();
-        let request_input = cooling_only_controller::request_input(
-            input,
-            suppression.after_suppression,
-            loops,
-            damper,
-        );
-        let step = s.output(tick.t, request_input, choices);
-        let state = SystemRequestsC::shut(step.state);
-        let requests = step.output;
-        RequestsTick {
-            state,
-            next: AfterRequests { airflow, requests },
-        }
-    }
-}
-
-#[derive(Clone, Copy)]
-pub struct AlarmsTick {
-    pub state: AlarmsC,
-    pub next: AfterAlarms,
 }
 
 #[derive(Clone, Copy)]
@@ -195,53 +48,124 @@ pub struct AfterAlarms {
     output: ControllerOutput,
 }
 
-impl AlarmsC {
-    pub fn tick(self, after: AfterRequests) -> AlarmsTick
-        ensures { result ≡ Stages.alarms_tick self after }
+impl LastTickC {
+    // What the stages begin with, or the first question that gets a "no".
+    pub fn question(self, tick: Tick) -> Result<TickStart, Refusal>
+        ensures { result ≡ Stages.questioned self tick }
     {
-        let airflow = after.airflow;
-        let suppression = airflow.suppression;
-        let start = suppression.start;
-        let tick = start.tick;
-        let input = tick.input;
-        let choices = start.choices;
-        let damper = airflow.damper;
-        let flows = airflow.flows;
-        let requests = after.requests;
-        let s = self.open();
-        let alarm_input = cooling_only_controller::alarm_input(input, damper);
-        let step = s.output(tick.t, alarm_input, choices);
-        let state = AlarmsC::shut(step.state);
-        let alarms = step.output;
-        let output = cooling_only_controller::outputs(damper, flows, requests, alarms);
-        AlarmsTick {
-            state,
-            next: AfterAlarms { t: tick.t, output },
+        air_box::questions(self.time.into(), tick)?;
+        Ok(TickStart {
+            tick,
+            choices: self.choices,
+        })
+    }
+
+    pub fn tick(self, done: AfterAlarms) -> Step<LastTickC, ControllerOutput>
+        ensures { result ≡ Stages.last_tick self done }
+    {
+        Step {
+            state: LastTickC {
+                time: Some(done.t).into(),
+                choices: self.choices,
+            },
+            output: done.output,
         }
     }
 }
 
-#[derive(Clone, Copy)]
-pub struct LastTick {
-    pub state: LastTickC,
-    pub output: ControllerOutput,
+impl TimeSuppressionC {
+    pub fn tick(self, start: TickStart) -> Step<TimeSuppressionC, AfterSuppression>
+        ensures { result ≡ Stages.suppression_tick self start }
+    {
+        let input = start.tick.input;
+        let step = TimeSuppressionState::from(self).output(
+            start.tick.t,
+            input.cooling_setpoint,
+            input.zone_temperature,
+        );
+        Step {
+            state: step.state.into(),
+            output: AfterSuppression {
+                start,
+                after_suppression: step.output,
+            },
+        }
+    }
 }
 
-impl LastTickC {
-    pub fn tick(self, done: AfterAlarms) -> LastTick
-        ensures { result ≡ Stages.last_tick self done }
+impl AirflowC {
+    pub fn tick(self, suppression: AfterSuppression) -> Step<AirflowC, AfterDampers>
+        ensures { result ≡ Stages.airflow_tick self suppression }
     {
-        let output = done.output;
-        let choices = self.choices;
-        LastTick {
-            state: LastTickC {
-                time: OptionalTimeC {
-                    present: true,
-                    time: done.t,
-                },
-                choices,
+        let start = suppression.start;
+        let steps = cooling_only_controller::airflow_steps(
+            start.tick.t,
+            start.tick.input,
+            start.choices,
+            self.control_loops.into(),
+            self.setpoints,
+            self.zone_states,
+            self.dampers.into(),
+        );
+        Step {
+            state: AirflowC::shut(
+                steps.loops.state,
+                steps.setpoints.state,
+                steps.zone.state,
+                steps.damper.state,
+            ),
+            output: AfterDampers {
+                suppression,
+                loops: steps.loops.output,
+                flows: steps.setpoints.output,
+                damper: steps.damper.output,
             },
-            output,
+        }
+    }
+}
+
+impl SystemRequestsC {
+    pub fn tick(self, airflow: AfterDampers) -> Step<SystemRequestsC, AfterRequests>
+        ensures { result ≡ Stages.requests_tick self airflow }
+    {
+        let suppression = airflow.suppression;
+        let start = suppression.start;
+        let wanted = cooling_only_controller::request_input(
+            start.tick.input,
+            suppression.after_suppression,
+            airflow.loops,
+            airflow.damper,
+        );
+        let step = SystemRequestsState::from(self).output(start.tick.t, wanted, start.choices);
+        Step {
+            state: step.state.into(),
+            output: AfterRequests {
+                airflow,
+                requests: step.output,
+            },
+        }
+    }
+}
+
+impl AlarmsC {
+    pub fn tick(self, after: AfterRequests) -> Step<AlarmsC, AfterAlarms>
+        ensures { result ≡ Stages.alarms_tick self after }
+    {
+        let airflow = after.airflow;
+        let start = airflow.suppression.start;
+        let input = cooling_only_controller::alarm_input(start.tick.input, airflow.damper);
+        let step = AlarmsState::from(self).output(start.tick.t, input, start.choices);
+        Step {
+            state: step.state.into(),
+            output: AfterAlarms {
+                t: start.tick.t,
+                output: cooling_only_controller::outputs(
+                    airflow.damper,
+                    airflow.flows,
+                    after.requests,
+                    step.output,
+                ),
+            },
         }
     }
 }

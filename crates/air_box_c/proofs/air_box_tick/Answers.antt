@@ -1,36 +1,56 @@
 -- `air_box_c::air_box_tick` meets its contract: the parts, run one after the other in their places, leave the record that ByParts.antt has. Assumes nothing.
-use Rattle.std.proofs.Common.{◌≡◌, ne_eqb, sym, ap, ◌∙◌}
-use lib.Ieee.Fits.{eq→eqb}
-use Rattle.air_box.specs.declared.Tick.{Tick}
+use Rattle.std.proofs.Common.{◌≡◌, Result, Ok, Err, refl, sym, ◌∙◌}
+use Rattle.std.specs.Prelude.{⊤}
 use Rattle.cooling_only_controller.specs.declared.ControllerOutput.{ControllerOutput}
+use Rattle.cooling_only_controller_timing.specs.declared.Step.{Step}
+use Rattle.air_box.specs.AirBox.{questions}
+use Rattle.air_box.specs.declared.Refusal.{Refusal}
+use Rattle.air_box.specs.declared.Tick.{Tick}
 use Rattle.air_box_c.specs.Promises.{Ticked}
-use Rattle.air_box_c.specs.Stages.{questioned, suppression_tick, airflow_tick, requests_tick, alarms_tick, last_tick}
+use Rattle.air_box_c.specs.Records.{open_time}
+use Rattle.air_box_c.specs.Stages.{begun, questioned, suppression_tick, airflow_tick, requests_tick, alarms_tick, last_tick}
 use Rattle.air_box_c.specs.declared.records.AirBoxC.{AirBoxC}
-use Rattle.air_box_c.specs.declared.stages.Questioned.{Questioned}
-use Rattle.air_box_c.specs.declared.stages.SuppressionTick.{SuppressionTick}
-use Rattle.air_box_c.specs.declared.stages.AirflowTick.{AirflowTick}
-use Rattle.air_box_c.specs.declared.stages.RequestsTick.{RequestsTick}
-use Rattle.air_box_c.specs.declared.stages.AlarmsTick.{AlarmsTick}
-use Rattle.air_box_c.specs.declared.stages.LastTick.{LastTick}
-use Rattle.air_box_c.proofs.ByParts.{tick_stored, tick_refused}
+use Rattle.air_box_c.specs.declared.records.TimeSuppressionC.{TimeSuppressionC}
+use Rattle.air_box_c.specs.declared.records.AirflowC.{AirflowC}
+use Rattle.air_box_c.specs.declared.records.SystemRequestsC.{SystemRequestsC}
+use Rattle.air_box_c.specs.declared.records.AlarmsC.{AlarmsC}
+use Rattle.air_box_c.specs.declared.records.LastTickC.{LastTickC}
+use Rattle.air_box_c.specs.declared.stages.TickStart.{TickStart}
+use Rattle.air_box_c.specs.declared.stages.AfterSuppression.{AfterSuppression}
+use Rattle.air_box_c.specs.declared.stages.AfterDampers.{AfterDampers}
+use Rattle.air_box_c.specs.declared.stages.AfterRequests.{AfterRequests}
+use Rattle.air_box_c.specs.declared.stages.AfterAlarms.{AfterAlarms}
+use Rattle.air_box_c.proofs.ByParts.{begins, tick_stored, tick_refused}
 use Rattle.air_box_c.proofs.air_box_tick.Goals as goal
 
-taken : (c : AirBoxC) (k : Tick) (w : ControllerOutput) (a : Questioned) (r₀ : SuppressionTick) (r₁ : AirflowTick) (r₂ : RequestsTick) (r₃ : AlarmsTick) (r₄ : LastTick)
-    → a ≡ questioned c.last k → a.number ≡ 0 → r₀ ≡ suppression_tick c.time_suppression a.next → r₁ ≡ airflow_tick c.airflow r₀.next → r₂ ≡ requests_tick c.system_requests r₁.next
-    → r₃ ≡ alarms_tick c.alarms r₂.next → r₄ ≡ last_tick c.last r₃.next
-    → Ticked c k w (record { time_suppression = r₀.state; airflow = r₁.state; system_requests = r₂.state; alarms = r₃.state; last = r₄.state }) r₄.output a.number
-taken c k w a r₀ r₁ r₂ r₃ r₄ is none e₀ e₁ e₂ e₃ e₄ =
-    rw (e₄, e₃, e₂, e₁, e₀, is) (tick_stored c k w (eq→eqb {b = 0} (ap (λ (q : Questioned). q.number) (sym is) ∙ none)))
+-- what the questions decided, by what the stages begin with
+accepts : (v : Result ⊤ Refusal) (s start : TickStart) → begun v s ≡ Ok start → (v ≡ Ok tt) × (start ≡ s)
+accepts (Ok tt) s start e = (refl, cc)
+accepts (Err reason) s start e = (cc, cc)
 
-left : (c : AirBoxC) (k : Tick) (w : ControllerOutput) (a : Questioned) → a ≡ questioned c.last k → (a.number ≡ 0 → ⊥) → Ticked c k w c w a.number
-left c k w a is some =
-    rw is (tick_refused c k w (rw (ne_eqb (questioned c.last k).number 0 (λ n. some (ap (λ (q : Questioned). q.number) is ∙ n))) tt))
+refuses : (v : Result ⊤ Refusal) (s : TickStart) (reason : Refusal) → begun v s ≡ Err reason → v ≡ Err reason
+refuses (Ok tt) s reason e = cc
+refuses (Err first) s reason e = cc
 
-pub returns-then-questioned-eq0 : goal.returns-then-questioned-eq0
-returns-then-questioned-eq0 c =
-    taken c.args.b.now c.args.tick.now c.args.output.now c.question-questioned.result c.tick-suppression.result c.tick-airflow.result c.tick-requests.result c.tick-alarms.result c.tick-last.result
-    c.question-questioned.ensures c.if-questioned-eq0.true c.tick-suppression.ensures c.tick-airflow.ensures c.tick-requests.ensures c.tick-alarms.ensures c.tick-last.ensures
+taken : (c : AirBoxC) (k : Tick) (w : ControllerOutput) (start : TickStart)
+    (r₀ : Step TimeSuppressionC AfterSuppression) (r₁ : Step AirflowC AfterDampers) (r₂ : Step SystemRequestsC AfterRequests) (r₃ : Step AlarmsC AfterAlarms) (r₄ : Step LastTickC ControllerOutput)
+    → questioned c.last k ≡ Ok start → r₀ ≡ suppression_tick c.time_suppression start → r₁ ≡ airflow_tick c.airflow r₀.output
+    → r₂ ≡ requests_tick c.system_requests r₁.output → r₃ ≡ alarms_tick c.alarms r₂.output → r₄ ≡ last_tick c.last r₃.output
+    → Ticked c k w (record { time_suppression = r₀.state; airflow = r₁.state; system_requests = r₂.state; alarms = r₃.state; last = r₄.state }) r₄.output 0
+taken c k w start r₀ r₁ r₂ r₃ r₄ is e₀ e₁ e₂ e₃ e₄ =
+    let a = accepts (questions (open_time c.last.time) k) (begins c k) start is in
+    rw (e₄, e₃, e₂, e₁, e₀, a.1) (tick_stored c k w a.0)
 
-pub returns-else-questioned-eq0 : goal.returns-else-questioned-eq0
-returns-else-questioned-eq0 c =
-    left c.args.b.now c.args.tick.now c.args.output.now c.question-questioned.result c.question-questioned.ensures c.if-questioned-eq0.false
+pub returns-in-Ok : goal.returns-in-Ok
+returns-in-Ok c =
+    taken c.args.b.now c.args.tick.now c.args.output.now c.in-Ok.start
+    c.tick-suppression.result c.tick-airflow.result c.tick-requests.result c.tick-alarms.result c.tick-last.result
+    (sym c.question.ensures ∙ c.in-Ok.is)
+    c.tick-suppression.ensures c.tick-airflow.ensures c.tick-requests.ensures c.tick-alarms.ensures c.tick-last.ensures
+
+pub returns-in-Err : goal.returns-in-Err
+returns-in-Err c =
+    let b = c.args.b.now in
+    let k = c.args.tick.now in
+    let first_no = refuses (questions (open_time b.last.time) k) (begins b k) c.in-Err.reason (sym c.question.ensures ∙ c.in-Err.is) in
+    rw c.into.ensures (tick_refused b k c.args.output.now c.in-Err.reason first_no)
