@@ -5,8 +5,7 @@ use Rattle.std.specs.Prelude.{Float, Option, Result, Ok, Err, ⊤}
 use Prim.Native.Nat.{ℕ, ◌+◌, ◌<◌, ◌≤◌}
 use native.Mathlib.Omega.{arith}
 use mathlib.Core.Bool.{Bool, true, false, not, cond}
-use lib.Dec.{T, ltb, eqb, ltb→lt, nltb→le, lit<}
-use lib.Ieee.Bits.{is_true, is_false}
+use lib.Dec.{T, T_not, ltb, eqb, ltb→lt, nltb→le, lit<}
 use Rattle.f64_helpers.specs.Seconds.{IsTime}
 use Rattle.f64_helpers.proofs.Times.{time_of_whole}
 use Rattle.cooling_only_controller.specs.declared.ControllerOutput.{ControllerOutput}
@@ -59,6 +58,9 @@ by_number TemperatureOutOfRange = refl
 by_number Co2OutOfRange = refl
 by_number AirflowOutOfRange = refl
 
+same_reason : (a c : Refusal) → refusal_number a ≡ refusal_number c → a ≡ c
+same_reason a c e = sym (by_number a) ∙ ap of_number e ∙ by_number c
+
 pub above_zero : (reason : Refusal) → 0 < refusal_number reason
 above_zero NotWholeSeconds = lit< tt
 above_zero TimeOutOfRange = lit< tt
@@ -108,67 +110,6 @@ module _ (b : Refusal → Bool) where
       asked Co2OutOfRange found _ f5 (λ y6 h6. let f6 : Below b 7 = one_more 6 f5 y6 in
       asked AirflowOutOfRange found _ f6 (λ y7 h7. cc) h6) h5) h4) h3) h2) h1) h
 
-  -- each question before the first "no" gets a "yes"
-  first→refused : (found : Refusal) → First found → verdict b ≡ Err found
-  first→refused NotWholeSeconds f = rw (is_false (b NotWholeSeconds) f.0)
-  first→refused TimeOutOfRange f =
-      rw (
-        is_true (b NotWholeSeconds) (f.1 NotWholeSeconds (lit< tt)),
-        is_false (b TimeOutOfRange) f.0,
-      )
-  first→refused BeforeLast f =
-      rw (
-        is_true (b NotWholeSeconds) (f.1 NotWholeSeconds (lit< tt)),
-        is_true (b TimeOutOfRange) (f.1 TimeOutOfRange (lit< tt)),
-        is_false (b BeforeLast) f.0,
-      )
-  first→refused TooLongAfterLast f =
-      rw (
-        is_true (b NotWholeSeconds) (f.1 NotWholeSeconds (lit< tt)),
-        is_true (b TimeOutOfRange) (f.1 TimeOutOfRange (lit< tt)),
-        is_true (b BeforeLast) (f.1 BeforeLast (lit< tt)),
-        is_false (b TooLongAfterLast) f.0,
-      )
-  first→refused TemperatureOutOfRange f =
-      rw (
-        is_true (b NotWholeSeconds) (f.1 NotWholeSeconds (lit< tt)),
-        is_true (b TimeOutOfRange) (f.1 TimeOutOfRange (lit< tt)),
-        is_true (b BeforeLast) (f.1 BeforeLast (lit< tt)),
-        is_true (b TooLongAfterLast) (f.1 TooLongAfterLast (lit< tt)),
-        is_false (b TemperatureOutOfRange) f.0,
-      )
-  first→refused Co2OutOfRange f =
-      rw (
-        is_true (b NotWholeSeconds) (f.1 NotWholeSeconds (lit< tt)),
-        is_true (b TimeOutOfRange) (f.1 TimeOutOfRange (lit< tt)),
-        is_true (b BeforeLast) (f.1 BeforeLast (lit< tt)),
-        is_true (b TooLongAfterLast) (f.1 TooLongAfterLast (lit< tt)),
-        is_true (b TemperatureOutOfRange) (f.1 TemperatureOutOfRange (lit< tt)),
-        is_false (b Co2OutOfRange) f.0,
-      )
-  first→refused AirflowOutOfRange f =
-      rw (
-        is_true (b NotWholeSeconds) (f.1 NotWholeSeconds (lit< tt)),
-        is_true (b TimeOutOfRange) (f.1 TimeOutOfRange (lit< tt)),
-        is_true (b BeforeLast) (f.1 BeforeLast (lit< tt)),
-        is_true (b TooLongAfterLast) (f.1 TooLongAfterLast (lit< tt)),
-        is_true (b TemperatureOutOfRange) (f.1 TemperatureOutOfRange (lit< tt)),
-        is_true (b Co2OutOfRange) (f.1 Co2OutOfRange (lit< tt)),
-        is_false (b AirflowOutOfRange) f.0,
-      )
-
-  all→accept : ((reason : Refusal) → T (b reason)) → verdict b ≡ Ok tt
-  all→accept f =
-      rw (
-        is_true (b NotWholeSeconds) (f NotWholeSeconds),
-        is_true (b TimeOutOfRange) (f TimeOutOfRange),
-        is_true (b BeforeLast) (f BeforeLast),
-        is_true (b TooLongAfterLast) (f TooLongAfterLast),
-        is_true (b TemperatureOutOfRange) (f TemperatureOutOfRange),
-        is_true (b Co2OutOfRange) (f Co2OutOfRange),
-        is_true (b AirflowOutOfRange) (f AirflowOutOfRange),
-      )
-
   -- a verdict that is none of a refusal: this question gets a "yes", and the rest decides likewise
   let_pass : (x : Refusal) (rest : Result ⊤ Refusal) → cond (not (b x)) (Err x) rest ≡ Ok tt → T (b x) × (rest ≡ Ok tt)
   let_pass x rest h = go (b x) refl h
@@ -197,6 +138,26 @@ module _ (b : Refusal → Bool) where
       each TemperatureOutOfRange y1 y2 y3 y4 y5 y6 y7 = y5
       each Co2OutOfRange y1 y2 y3 y4 y5 y6 y7 = y6
       each AirflowOutOfRange y1 y2 y3 y4 y5 y6 y7 = y7
+
+  -- and back: any other verdict would have a reason that is no first "no", or none
+  all→accept : ((reason : Refusal) → T (b reason)) → verdict b ≡ Ok tt
+  all→accept f = go (verdict b) refl
+    where
+      go : (v : Result ⊤ Refusal) → verdict b ≡ v → verdict b ≡ Ok tt
+      go (Ok _) e = e
+      go (Err x) e = absurd (T_not (b x) (refused→first x e).0 (f x))
+
+  first→refused : (found : Refusal) → First found → verdict b ≡ Err found
+  first→refused found f = go (verdict b) refl
+    where
+      same : (n m : ℕ) → ¬ (n < m) → ¬ (m < n) → n ≡ m
+      same n m p q = omega arith
+
+      go : (v : Result ⊤ Refusal) → verdict b ≡ v → verdict b ≡ Err found
+      go (Ok _) e = absurd (T_not (b found) f.0 (accept→all e found))
+      go (Err x) e =
+          let g : First x = refused→first x e in
+          e ∙ ap Err (same_reason x found (same (refusal_number x) (refusal_number found) (λ l. T_not (b x) g.0 (f.1 x l)) (λ l. T_not (b found) f.0 (g.1 found l))))
 
 -- ---- the questions, asked of a tick after the last accepted time `last`
 pub questions_accept : (last : Option Float) (k : Tick) → (questions last k ≡ Ok tt) ↔ AllYes last k
@@ -247,9 +208,6 @@ apart given output number e f = cc
 
 same_number : (given : ControllerOutput ⊎ ℕ) (n m : ℕ) → given ≡ inr n → given ≡ inr m → n ≡ m
 same_number given n m e f = cc
-
-same_reason : (a c : Refusal) → refusal_number a ≡ refusal_number c → a ≡ c
-same_reason a c e = sym (by_number a) ∙ ap of_number e ∙ by_number c
 
 -- a tick that gives a number is refused for the reason of that number
 refused_for : (box : AirBox) (k : Tick) (number : ℕ) → given_for box k ≡ inr number
