@@ -53,15 +53,23 @@ fn print<T: Display + Drop>(rt: HostRuntime, label: &str, value: T) {
     }
 }
 
-// The reason is told in the system's words, without the number that std puts behind them, as ` (os error 28)`.
-// ticks cuts it off likewise: no crate below both has to do with errors.
 fn cannot_write(rt: HostRuntime, error: io::Error) {
-    let said = InlineText::<128>::of(error);
-    let reason = match said.as_str().split_once(" (os error ") {
-        Some((words, _)) => words,
-        None => said.as_str(),
-    };
-    let _ = eprintln!(rt; "bench: cannot write: {reason}");
+    let _ = eprintln!(rt; "bench: cannot write: {}", Reason(error));
+}
+
+// What std says of an error, without the number that stands behind the system's words, as ` (os error 28)`.
+// ticks has the same: no crate that both stand on has to do with errors.
+#[derive(Clone, Copy)]
+struct Reason(io::Error);
+
+impl Display for Reason {
+    fn fmt<W: fmt::Write>(&self, f: &mut fmt::Formatter<W>) -> fmt::Result {
+        let said = InlineText::<128>::of(self.0);
+        match said.as_str().split_once(" (os error ") {
+            Some((words, _)) => f.write_str(words),
+            None => f.write_str(said.as_str()),
+        }
+    }
 }
 
 // A flag that was seen, printed as 1 or 0; 2 stands where what is seen does not hold together.
@@ -280,8 +288,10 @@ fn print_ends<F: Fn(f64, bool) -> DeadBandOutput>(
 )
     requires { F.IsAlwaysCallable compare }
 {
-    let [below, lowest, highest, above] =
-        ends.map(|u| by_memory(compare(u, false), compare(u, true)));
+    let [below, lowest, highest, above] = ends.map(|u| by_memory(
+        compare(u, false),
+        compare(u, true),
+    ));
     if let Err(error) = println!(rt;
         "by memory at both ends of {label} {below} {lowest} {highest} {above}"
     ) {
