@@ -1,183 +1,173 @@
 // Bench cases that are run: document 01's first ticks 130, 190 and 250 and every refusal, and document 02's quiet start with low flow, which is proved too, night of a leak with low flow, and dead bands with their memory. What it prints is held to the file stdout.
 #![tactic(auto)]
 
-use air_box::{AirBox, AirBoxStep, Answer, Start, Tick};
+use air_box::{AirBox, AirBoxStep, Answer, Start, Tick, desk_code};
 use cdl_recurrences::{DeadBandOutput, greater_hysteretic, hysteresis, less_hysteretic};
-use cooling_only_controller::ControllerInput;
-use std::io::{self, Cursor, Write};
+use cooling_only_controller::{ControllerInput, ControllerOutput};
+use std::fmt::{self, Display, InlineText};
+use std::io;
 
-// A tick in mode 1 with calm readings, but for the seven that the cases vary.
-fn tick_of(
-    t: f64,
-    zone: f64,
-    co2: f64,
-    flow: f64,
-    airflow_override: i64,
-    damper_override: i64,
-    fan: bool,
-) -> Tick {
-    Tick {
-        t,
-        input: ControllerInput {
-            zone_temperature: zone,
-            cooling_setpoint: 297.0,
-            heating_setpoint: 293.0,
-            window_status: true,
-            occupancy_status: true,
-            operating_mode: 1,
-            co2_setpoint: 894.0,
-            co2_concentration: co2,
-            discharge_air_temperature: 288.0,
-            supply_air_temperature: 287.0,
-            discharge_airflow: flow,
-            airflow_override_index: airflow_override,
-            damper_override_index: damper_override,
-            supply_fan_status: fan,
-        },
+// Calm readings in mode 1. The cases vary some of them.
+fn calm() -> ControllerInput {
+    ControllerInput {
+        zone_temperature: 296.0,
+        cooling_setpoint: 297.0,
+        heating_setpoint: 293.0,
+        window_status: true,
+        occupancy_status: true,
+        operating_mode: 1,
+        co2_setpoint: 894.0,
+        co2_concentration: 600.0,
+        discharge_air_temperature: 288.0,
+        supply_air_temperature: 287.0,
+        discharge_airflow: 0.5,
+        airflow_override_index: 0,
+        damper_override_index: 0,
+        supply_fan_status: true,
     }
 }
 
 fn at(t: f64) -> Tick {
-    tick_of(t, 296.0, 600.0, 0.5, 0, 0, true)
+    Tick { t, input: calm() }
 }
 
-// 0 for an accepted tick, else the number of the refusal.
-fn number(step: AirBoxStep) -> u64 {
-    let answer = step.answer;
-    match answer {
+// The number that the C interface answers: 0 for an accepted tick, else that of the refusal.
+fn number(step: AirBoxStep) -> u8 {
+    match step.answer {
         Answer::Accepted(_) => 0,
-        Answer::Refused(reason) => reason.number() as u64,
+        Answer::Refused(reason) => reason.number(),
     }
 }
 
-fn print(rt: HostRuntime, label: &str, n: u64) {
-    if let Err(error) = println!(rt; "{label} {n}") {
+// The outputs of an accepted tick.
+fn outputs(step: AirBoxStep) -> Option<ControllerOutput> {
+    match step.answer {
+        Answer::Accepted(output) => Some(output),
+        Answer::Refused(_) => None,
+    }
+}
+
+fn print<T: Display + Drop>(rt: HostRuntime, label: &str, value: T) {
+    if let Err(error) = println!(rt; "{label} {value}") {
         cannot_write(rt, error);
     }
 }
 
-// The reason is told in the system's words, without the number that std puts behind them, as ` (os error 28)`.
 fn cannot_write(rt: HostRuntime, error: io::Error) {
-    let mut text = [0u8; 128];
-    let mut said = Cursor::new(&mut text[..]);
-    let _ = write!(said, "{error}");
-    let end = said.position() as usize;
-    let end = end.min(text.len());
-    let said = str::from_utf8(&text[..end]).unwrap_or("");
-    let reason = match said.split_once(" (os error ") {
-        Some((words, _)) => words,
-        None => said,
-    };
-    let _ = eprintln!(rt; "bench: cannot write: {reason}");
+    let _ = eprintln!(rt; "bench: cannot write: {}", Reason(error));
 }
 
-fn flag(b: bool) -> u64 {
-    if b { 1 } else { 0 }
+// What std says of an error, without the number that stands behind the system's words, as ` (os error 28)`.
+// ticks has the same: no crate that both stand on has to do with errors.
+#[derive(Clone, Copy)]
+struct Reason(io::Error);
+
+impl Display for Reason {
+    fn fmt<W: fmt::Write>(&self, f: &mut fmt::Formatter<W>) -> fmt::Result {
+        let said = InlineText::<128>::of(self.0);
+        match said.as_str().split_once(" (os error ") {
+            Some((words, _)) => f.write_str(words),
+            None => f.write_str(said.as_str()),
+        }
+    }
+}
+
+// A flag that was seen, printed as 1 or 0; 2 stands where what is seen does not hold together.
+#[derive(Clone, Copy)]
+struct Seen(Option<bool>);
+
+impl Display for Seen {
+    fn fmt<W: fmt::Write>(&self, f: &mut fmt::Formatter<W>) -> fmt::Result {
+        f.write_str(match self.0 {
+            Some(true) => "1",
+            Some(false) => "0",
+            None => "2",
+        })
+    }
 }
 
 // The unit delay gives 0.0 at 250 after a first tick off the grid, so a setpoint change is seen there.
 fn first_ticks(rt: HostRuntime) {
-    let first = AirBox::fresh(Start::Plain).tick(at(130.0)).state;
-    let second = first.tick(at(190.0)).state;
-    let third = second.tick(at(250.0)).state;
-    print(
-        rt,
-        "130 suppression",
-        flag(first.state.time_suppression.previous_active),
-    );
-    print(
-        rt,
-        "190 suppression",
-        flag(second.state.time_suppression.previous_active),
-    );
-    print(
-        rt,
-        "250 suppression",
-        flag(third.state.time_suppression.previous_active),
-    );
-    let delayed = third.state.time_suppression.previous_sample.held;
-    print(rt, "250 unit delay gives 0.0", flag(delayed == 0.0));
+    let mut b = AirBox::fresh(Start::Plain);
+    for (label, t) in [
+        ("130 suppression", 130.0),
+        ("190 suppression", 190.0),
+        ("250 suppression", 250.0),
+    ] {
+        b = b.tick(at(t)).state;
+        print(
+            rt,
+            label,
+            u8::from(b.state.time_suppression.previous_active),
+        );
+    }
+    let delayed = b.state.time_suppression.previous_sample.held;
+    print(rt, "250 unit delay gives 0.0", u8::from(delayed == 0.0));
 }
 
 fn refusals_of_time(rt: HostRuntime) {
     let fresh = AirBox::fresh(Start::Plain);
-    print(rt, "t 0.5 gives", number(fresh.tick(at(0.5))));
-    print(rt, "t infinity gives", number(fresh.tick(at(1.0 / 0.0))));
-    print(rt, "t -1 gives", number(fresh.tick(at(-1.0))));
-    print(rt, "t -0.0 gives", number(fresh.tick(at(-0.0))));
-    print(
-        rt,
-        "t 2147483648 gives",
-        number(fresh.tick(at(2147483648.0))),
-    );
-    print(
-        rt,
-        "t 2147483649 gives",
-        number(fresh.tick(at(2147483649.0))),
-    );
+    for (label, t) in [
+        ("t 0.5 gives", 0.5),
+        ("t infinity gives", 1.0 / 0.0),
+        ("t -1 gives", -1.0),
+        ("t -0.0 gives", -0.0),
+        ("t 2147483648 gives", 2147483648.0),
+        ("t 2147483649 gives", 2147483649.0),
+    ] {
+        print(rt, label, number(fresh.tick(at(t))));
+    }
     let last = fresh.tick(at(1000.0)).state;
-    print(rt, "last 1000, 999 gives", number(last.tick(at(999.0))));
-    print(rt, "last 1000, 1000 gives", number(last.tick(at(1000.0))));
-    print(rt, "last 1000, 1240 gives", number(last.tick(at(1240.0))));
-    print(rt, "last 1000, 1241 gives", number(last.tick(at(1241.0))));
+    for (label, t) in [
+        ("last 1000, 999 gives", 999.0),
+        ("last 1000, 1000 gives", 1000.0),
+        ("last 1000, 1240 gives", 1240.0),
+        ("last 1000, 1241 gives", 1241.0),
+    ] {
+        print(rt, label, number(last.tick(at(t))));
+    }
 }
 
 fn refusals_of_readings(rt: HostRuntime) {
     let fresh = AirBox::fresh(Start::Plain);
-    let cold = tick_of(0.0, 150.0, 600.0, 0.5, 0, 0, true);
-    print(rt, "zone 150.0 gives", number(fresh.tick(cold)));
-    let hot = tick_of(0.0, 450.0, 600.0, 0.5, 0, 0, true);
-    print(rt, "zone 450.0 gives", number(fresh.tick(hot)));
-    let colder = tick_of(0.0, 149.9, 600.0, 0.5, 0, 0, true);
-    print(rt, "zone 149.9 gives", number(fresh.tick(colder)));
-    let stale = tick_of(0.0, 296.0, 10000.5, 0.5, 0, 0, true);
-    print(rt, "CO2 10000.5 gives", number(fresh.tick(stale)));
-    let backward = tick_of(0.0, 296.0, 600.0, -10.5, 0, 0, true);
-    print(rt, "flow -10.5 gives", number(fresh.tick(backward)));
-    let nothing = tick_of(0.5, 0.0 / 0.0, 600.0, 0.5, 0, 0, true);
-    print(rt, "t 0.5 with zone NaN gives", number(fresh.tick(nothing)));
-}
-
-#[derive(Clone, Copy)]
-struct Alarms {
-    low_airflow: i64,
-    airflow_sensor: i64,
-    leaking_damper: i64,
-}
-
-// The alarms of an accepted tick. A refused one has none, for which -1 stands.
-fn alarms_of(step: AirBoxStep) -> Alarms {
-    let answer = step.answer;
-    match answer {
-        Answer::Accepted(output) => Alarms {
-            low_airflow: output.low_airflow_alarm,
-            airflow_sensor: output.airflow_sensor_alarm,
-            leaking_damper: output.leaking_damper_alarm,
-        },
-        Answer::Refused(_) => Alarms {
-            low_airflow: -1,
-            airflow_sensor: -1,
-            leaking_damper: -1,
-        },
+    for (label, t, zone_temperature, co2_concentration, discharge_airflow) in [
+        ("zone 150.0 gives", 0.0, 150.0, 600.0, 0.5),
+        ("zone 450.0 gives", 0.0, 450.0, 600.0, 0.5),
+        ("zone 149.9 gives", 0.0, 149.9, 600.0, 0.5),
+        ("CO2 10000.5 gives", 0.0, 296.0, 10000.5, 0.5),
+        ("flow -10.5 gives", 0.0, 296.0, 600.0, -10.5),
+        ("t 0.5 with zone NaN gives", 0.5, 0.0 / 0.0, 600.0, 0.5),
+    ] {
+        let input = ControllerInput {
+            zone_temperature,
+            co2_concentration,
+            discharge_airflow,
+            ..calm()
+        };
+        print(rt, label, number(fresh.tick(Tick { t, input })));
     }
 }
 
 // Fan on and low flow from tick 0: when the fan is armed, and when the low alarm first stands.
 fn quiet_start(rt: HostRuntime) {
+    let input = ControllerInput {
+        discharge_airflow: 0.0,
+        airflow_override_index: 2,
+        ..calm()
+    };
     let mut b = AirBox::fresh(Start::Quiet);
     let mut armed_before = false;
     let mut alarm_before = false;
     for minute in 0..37u64 {
         let seconds = minute * 60;
         let t = std::num::nearest_u64_to_f64(seconds);
-        let step = b.tick(tick_of(t, 296.0, 600.0, 0.0, 2, 0, true));
-        let state = step.state;
-        b = state;
+        let step = b.tick(Tick { t, input });
+        b = step.state;
         let armed = b.state.alarms.fan_armed.held;
         if armed & !armed_before {
             print(rt, "quiet start armed at", seconds);
         }
-        let alarm = alarms_of(step).low_airflow != 0;
+        let alarm = outputs(step).is_some_and(|output| output.low_airflow_alarm != 0);
         if alarm & !alarm_before {
             print(rt, "quiet start low alarm at", seconds);
         }
@@ -187,41 +177,28 @@ fn quiet_start(rt: HostRuntime) {
 }
 
 // Airflow override 3 and the damper shut by its override.
-fn shut(t: f64, flow: f64, fan: bool) -> Tick {
-    tick_of(t, 296.0, 600.0, flow, 3, 1, fan)
-}
-
-fn print_code(
-    rt: HostRuntime,
-    label: &str,
-    low_airflow: i64,
-    airflow_sensor: i64,
-    leaking_damper: i64,
-) {
-    print(
-        rt,
-        label,
-        air_box::desk_code(low_airflow, airflow_sensor, leaking_damper) as u64,
-    );
+fn shut(t: f64, discharge_airflow: f64, supply_fan_status: bool) -> Tick {
+    let input = ControllerInput {
+        discharge_airflow,
+        supply_fan_status,
+        airflow_override_index: 3,
+        damper_override_index: 1,
+        ..calm()
+    };
+    Tick { t, input }
 }
 
 // The code that the low alarm and the leak alarm would have alone, and the code.
-fn print_codes(rt: HostRuntime, seconds: u64, alarms: Alarms) {
+fn print_codes(rt: HostRuntime, seconds: u64, output: ControllerOutput) {
+    let low = output.low_airflow_alarm;
+    let leak = output.leaking_damper_alarm;
     print(rt, "leak and low flow at", seconds);
-    print_code(rt, "code of the low alarm alone", alarms.low_airflow, 0, 0);
-    print_code(
-        rt,
-        "code of the leak alarm alone",
-        0,
-        0,
-        alarms.leaking_damper,
-    );
-    print_code(
+    print(rt, "code of the low alarm alone", desk_code(low, 0, 0));
+    print(rt, "code of the leak alarm alone", desk_code(0, 0, leak));
+    print(
         rt,
         "code",
-        alarms.low_airflow,
-        alarms.airflow_sensor,
-        alarms.leaking_damper,
+        desk_code(low, output.airflow_sensor_alarm, leak),
     );
 }
 
@@ -229,106 +206,48 @@ fn print_codes(rt: HostRuntime, seconds: u64, alarms: Alarms) {
 fn leak_and_low_flow(rt: HostRuntime) {
     let first = shut(0.0, 0.0, false);
     let mut b = AirBox::fresh(Start::Plain).tick(first).state;
-    let mut low_before = 0;
-    let mut leak_before = 0;
+    let mut before = (0, 0);
     for minute in 1..41u64 {
         let seconds = minute * 60;
         let step = b.tick(shut(std::num::nearest_u64_to_f64(seconds), 0.3, true));
-        let state = step.state;
-        b = state;
-        let now = alarms_of(step);
-        if (now.low_airflow != low_before) | (now.leaking_damper != leak_before) {
-            print_codes(rt, seconds, now);
+        b = step.state;
+        if let Some(output) = outputs(step) {
+            let now = (output.low_airflow_alarm, output.leaking_damper_alarm);
+            if now != before {
+                print_codes(rt, seconds, output);
+            }
+            before = now;
         }
-        low_before = now.low_airflow;
-        leak_before = now.leaking_damper;
     }
 }
 
-// 1 or 0, and 2 where what is seen does not hold together.
-fn flag_if(sound: bool, b: bool) -> u64 {
-    if sound { flag(b) } else { 2 }
-}
-
 // What a box keeps as flow high after a tick with this flow, and whether memory decided that, by the alarms stage's comparison at the memory from before. The tick has to be accepted, and the two answers the same.
-fn print_flow(
-    rt: HostRuntime,
-    is_high: &str,
-    decided: &str,
-    flow: f64,
-    before: bool,
-    step: AirBoxStep,
-) {
-    let compared = greater_hysteretic(flow, 0.1 * 1.5, 0.01, before);
+fn print_flow(rt: HostRuntime, label: &str, b: AirBox, t: f64, flow: f64) -> AirBox {
+    let input = ControllerInput {
+        discharge_airflow: flow,
+        supply_fan_status: false,
+        ..calm()
+    };
+    let compared = greater_hysteretic(flow, 0.1 * 1.5, 0.01, b.state.alarms.flow_high);
+    let step = b.tick(Tick { t, input });
     let after = step.state.state.alarms.flow_high;
-    let sound = (number(step) == 0) & (compared.output == after);
-    print(rt, is_high, flag_if(sound, after));
-    print(rt, decided, flag_if(sound, compared.decided_by_memory));
-}
-
-fn flow_at(t: f64, flow: f64) -> Tick {
-    tick_of(t, 296.0, 600.0, flow, 0, 0, false)
+    let sound = outputs(step).is_some() & (compared.output == after);
+    let is_high = Seen(sound.then_some(after));
+    let by_memory = Seen(sound.then_some(compared.decided_by_memory));
+    if let Err(error) = println!(rt; "{label} is high {is_high}") {
+        cannot_write(rt, error);
+    }
+    if let Err(error) = println!(rt; "{label} by memory {by_memory}") {
+        cannot_write(rt, error);
+    }
+    step.state
 }
 
 fn flow_of_0_145(rt: HostRuntime) {
     let fresh = AirBox::fresh(Start::Plain);
-    let before_any = fresh.state.alarms.flow_high;
-    print_flow(
-        rt,
-        "first flow 0.145 is high",
-        "first flow 0.145 by memory",
-        0.145,
-        before_any,
-        fresh.tick(flow_at(0.0, 0.145)),
-    );
-    let after_0_16 = fresh.tick(flow_at(0.0, 0.16));
-    print_flow(
-        rt,
-        "flow 0.16 is high",
-        "flow 0.16 by memory",
-        0.16,
-        before_any,
-        after_0_16,
-    );
-    let b = after_0_16.state;
-    print_flow(
-        rt,
-        "flow 0.145 after 0.16 is high",
-        "flow 0.145 after 0.16 by memory",
-        0.145,
-        b.state.alarms.flow_high,
-        b.tick(flow_at(60.0, 0.145)),
-    );
-}
-
-// Whether memory decides at a reading. Both flags have to say so, and both answers bear it out.
-fn by_memory(off: DeadBandOutput, on: DeadBandOutput) -> u64 {
-    let differ = off.output != on.output;
-    flag_if(
-        (off.decided_by_memory == differ) & (on.decided_by_memory == differ),
-        differ,
-    )
-}
-
-fn hysteresis_by_memory(u: f64, low: f64, high: f64) -> u64 {
-    by_memory(
-        hysteresis(u, low, high, false),
-        hysteresis(u, low, high, true),
-    )
-}
-
-fn less_by_memory(u1: f64, u2: f64, h: f64) -> u64 {
-    by_memory(
-        less_hysteretic(u1, u2, h, false),
-        less_hysteretic(u1, u2, h, true),
-    )
-}
-
-fn greater_by_memory(u1: f64, u2: f64, h: f64) -> u64 {
-    by_memory(
-        greater_hysteretic(u1, u2, h, false),
-        greater_hysteretic(u1, u2, h, true),
-    )
+    print_flow(rt, "first flow 0.145", fresh, 0.0, 0.145);
+    let after = print_flow(rt, "flow 0.16", fresh, 0.0, 0.16);
+    print_flow(rt, "flow 0.145 after 0.16", after, 60.0, 0.145);
 }
 
 // No f64 lies between the two: half way rounds to one of them.
@@ -353,8 +272,26 @@ fn next_down(x: f64) -> f64 {
     f64_helpers::choose(neighbours(down, x), down, x)
 }
 
-// The f64 outside of the low end, the one inside of it, the one inside of the high end, the one outside of it.
-fn print_ends(rt: HostRuntime, label: &str, below: u64, lowest: u64, highest: u64, above: u64) {
+// Whether memory decides at a reading. Both flags have to say so, and both answers bear it out.
+fn by_memory(off: DeadBandOutput, on: DeadBandOutput) -> Seen {
+    let differ = off.output != on.output;
+    let sound = (off.decided_by_memory == differ) & (on.decided_by_memory == differ);
+    Seen(sound.then_some(differ))
+}
+
+// A comparison at the f64 outside of the low end, the one inside of it, the one inside of the high end, the one outside of it.
+fn print_ends<F: Fn(f64, bool) -> DeadBandOutput>(
+    rt: HostRuntime,
+    label: &str,
+    ends: [f64; 4],
+    compare: F,
+)
+    requires { F.IsAlwaysCallable compare }
+{
+    let [below, lowest, highest, above] = ends.map(|u| by_memory(
+        compare(u, false),
+        compare(u, true),
+    ));
     if let Err(error) = println!(rt;
         "by memory at both ends of {label} {below} {lowest} {highest} {above}"
     ) {
@@ -362,56 +299,38 @@ fn print_ends(rt: HostRuntime, label: &str, below: u64, lowest: u64, highest: u6
     }
 }
 
-fn hysteresis_band(rt: HostRuntime, label: &str, low: f64, high: f64) {
-    print_ends(
-        rt,
-        label,
-        hysteresis_by_memory(next_down(low), low, high),
-        hysteresis_by_memory(low, low, high),
-        hysteresis_by_memory(high, low, high),
-        hysteresis_by_memory(next_up(high), low, high),
-    );
-}
-
-fn less_band(rt: HostRuntime, label: &str, u2: f64, h: f64) {
-    print_ends(
-        rt,
-        label,
-        less_by_memory(next_down(u2), u2, h),
-        less_by_memory(u2, u2, h),
-        less_by_memory(next_down(u2 + h), u2, h),
-        less_by_memory(u2 + h, u2, h),
-    );
-}
-
-fn greater_band(rt: HostRuntime, label: &str, u2: f64, h: f64) {
-    print_ends(
-        rt,
-        label,
-        greater_by_memory(u2 - h, u2, h),
-        greater_by_memory(next_up(u2 - h), u2, h),
-        greater_by_memory(u2, u2, h),
-        greater_by_memory(next_up(u2), u2, h),
-    );
-}
-
 // Every dead band of the controller. One that moves with another reading stands where that is at a usual number.
 fn dead_bands(rt: HostRuntime) {
-    hysteresis_band(rt, "heating_signal, cooling_signal", 0.01, 0.05);
-    hysteresis_band(rt, "heating_tiebreak", -0.01, 0.01);
-    hysteresis_band(rt, "hot_three", 2.75, 3.0);
-    hysteresis_band(rt, "hot_two", 1.75, 2.0);
-    hysteresis_band(rt, "cooling_high, damper_high", 0.94, 0.95);
-    hysteresis_band(rt, "setpoint_on, setpoint_nonzero", 0.005, 0.01);
-    less_band(rt, "cooling_enable, heating_enable", 297.0, 0.25);
-    less_band(rt, "cooling_near_zero, heating_near_zero", 0.01, 0.008);
-    less_band(rt, "low_half", 0.5 * 0.5, 0.01);
-    less_band(rt, "damper_closed", 0.01, 0.5 * 0.01);
-    greater_band(rt, "change_detected", 0.25, 0.5 * 0.25);
-    greater_band(rt, "cooling_supply", 288.0, 0.25);
-    greater_band(rt, "supply_warm", 296.0, 0.25);
-    greater_band(rt, "starved_half, starved_seventy, low_seventy", 0.3, 0.01);
-    greater_band(rt, "flow_high", 0.1 * 1.5, 0.01);
+    for (label, low, high) in [
+        ("heating_signal, cooling_signal", 0.01, 0.05),
+        ("heating_tiebreak", -0.01, 0.01),
+        ("hot_three", 2.75, 3.0),
+        ("hot_two", 1.75, 2.0),
+        ("cooling_high, damper_high", 0.94, 0.95),
+        ("setpoint_on, setpoint_nonzero", 0.005, 0.01),
+    ] {
+        let ends = [next_down(low), low, high, next_up(high)];
+        print_ends(rt, label, ends, |u, on| hysteresis(u, low, high, on));
+    }
+    for (label, u2, h) in [
+        ("cooling_enable, heating_enable", 297.0, 0.25),
+        ("cooling_near_zero, heating_near_zero", 0.01, 0.008),
+        ("low_half", 0.5 * 0.5, 0.01),
+        ("damper_closed", 0.01, 0.5 * 0.01),
+    ] {
+        let ends = [next_down(u2), u2, next_down(u2 + h), u2 + h];
+        print_ends(rt, label, ends, |u, on| less_hysteretic(u, u2, h, on));
+    }
+    for (label, u2, h) in [
+        ("change_detected", 0.25, 0.5 * 0.25),
+        ("cooling_supply", 288.0, 0.25),
+        ("supply_warm", 296.0, 0.25),
+        ("starved_half, starved_seventy, low_seventy", 0.3, 0.01),
+        ("flow_high", 0.1 * 1.5, 0.01),
+    ] {
+        let ends = [u2 - h, next_up(u2 - h), u2, next_up(u2)];
+        print_ends(rt, label, ends, |u, on| greater_hysteretic(u, u2, h, on));
+    }
 }
 
 fn main(rt: HostRuntime) {
