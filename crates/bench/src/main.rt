@@ -1,7 +1,7 @@
 // Bench cases that are run: document 01's first ticks 130, 190 and 250 and every refusal, and document 02's quiet start with low flow, which is proved too, night of a leak with low flow, and dead bands with their memory. What it prints is held to the file stdout.
 #![tactic(auto)]
 
-use air_box::{AirBox, AirBoxStep, Answer, Start, Tick, desk_code};
+use air_box::{AirBox, AirBoxStep, Start, Tick, desk_code};
 use cdl_recurrences::{DeadBandOutput, greater_hysteretic, hysteresis, less_hysteretic};
 use cooling_only_controller::{ControllerInput, ControllerOutput};
 use std::fmt::{self, Display, InlineText};
@@ -34,17 +34,14 @@ fn at(t: f64) -> Tick {
 // The number that the C interface answers: 0 for an accepted tick, else that of the refusal.
 fn number(step: AirBoxStep) -> u8 {
     match step.answer {
-        Answer::Accepted(_) => 0,
-        Answer::Refused(reason) => reason.number(),
+        Ok(_) => 0,
+        Err(reason) => reason.into(),
     }
 }
 
 // The outputs of an accepted tick.
 fn outputs(step: AirBoxStep) -> Option<ControllerOutput> {
-    match step.answer {
-        Answer::Accepted(output) => Some(output),
-        Answer::Refused(_) => None,
-    }
+    step.answer.ok()
 }
 
 fn print<T: Display + Drop>(rt: HostRuntime, label: &str, value: T) {
