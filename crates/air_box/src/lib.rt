@@ -52,6 +52,7 @@ pub enum Refusal {
 // A tick's answer: the ten outputs, or the refusal.
 pub type Answer = Result<ControllerOutput, Refusal>;
 
+// The box after a tick, and its answer. No `Step`: the claims about nights speak of the answer by its name.
 #[derive(Clone, Copy)]
 pub struct AirBoxStep {
     pub state: AirBox,
@@ -172,16 +173,6 @@ impl AirBox {
     }
 }
 
-// The number of what building gives: 0 for a box, and that of the reason where none is built.
-pub fn built_number(built: Result<AirBox, BuildRefusal>) -> u8
-    ensures { result ≡ AirBoxes.built_number built }
-{
-    match built {
-        Ok(_) => 0,
-        Err(refusal) => refusal.into(),
-    }
-}
-
 fn unticked(choices: Choices) -> AirBox
     ensures { result ≡ AirBoxes.unticked choices }
 {
@@ -259,7 +250,7 @@ fn temperatures_within(input: ControllerInput) -> bool
         & within(input.supply_air_temperature, 150.0, 450.0)
 }
 
-// One number from the three alarms, by the first rule that fits. The leak comes first: the fitter is wanted at the damper, also where the airflow is low.
+// One number from the three alarms, which are numbers in the output that C reads; so is the code, which the dispatcher reads. By the first rule that fits. The leak comes first: the fitter is wanted at the damper, also where the airflow is low.
 #[tactic(auto, unfolding(crate::specs::AirBox::desk_code))]
 pub fn desk_code(low_airflow: i64, airflow_sensor: i64, leaking_damper: i64) -> u8
     ensures { result ≡ AirBoxes.desk_code low_airflow airflow_sensor leaking_damper }

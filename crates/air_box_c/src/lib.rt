@@ -1,4 +1,4 @@
-// The C interface: the exported functions. The box as a record of numbers and flags is in records.rt, the parts of a tick are in stages.rt.
+// The C interface: the exported functions. They answer with a number, since C has no Result. The box as a record of numbers and flags is in records.rt, the parts of a tick are in stages.rt.
 #![tactic(auto)]
 
 ghost use Rattle.std.specs.Prelude.{◌≡◌};

@@ -1,4 +1,4 @@
-// The records of the C interface: one for each stage record that holds a time, and the box as a record of them.
+// The records of the C interface: one for each stage record that holds a time, since an exported signature takes no Option, and the box as a record of them.
 // A record converts into the state that it stands for (`open` in the definitions), and a state into its record (`shut`).
 ghost use Rattle.std.specs.Prelude.{◌≡◌};
 ghost use Rattle.air_box_c.specs.Records as Records;

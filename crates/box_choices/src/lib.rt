@@ -4,7 +4,7 @@
 ghost use Rattle.std.specs.Prelude.{◌≡◌};
 ghost use Rattle.box_choices.specs.BoxChoices as BoxChoices;
 
-// Flows in cubic metres a second. What building takes is checked there; a stage takes any.
+// Flows in cubic metres a second. What building takes is checked there; a stage takes any. The start and the reading are flags and no enums, since C has this record as it stands.
 // The first reading of the airflow sensor alarm: flow has been high with the fan off for ten minutes. The second: the fan has been off for ten minutes, and flow is high now.
 #[repr(C)]
 #[derive(Clone, Copy)]

@@ -20,7 +20,7 @@ pub struct DeadBandOutput {
     pub decided_by_memory: bool,
 }
 
-// Whether a sample is due, and the index of the sample instant.
+// Whether a sample is due, and the index of the sample instant. No Option: there is an index, and it is told, whether a sample is due or not.
 #[derive(Clone, Copy)]
 pub struct SampleDue {
     pub due: bool,

@@ -1,4 +1,5 @@
 // Airflow, system requests and alarms, as in cooling_only_controller_airflow.rs.
+// A stage takes the tick's time, its input and the box's choices one by one: `t` and `input` are the Rust's, `t` goes on to the blocks alone, and the choices are a record already.
 #![tactic(auto)]
 
 ghost use Rattle.std.specs.Prelude.{◌≡◌};
@@ -346,6 +347,7 @@ fn system_requests_step(
     }
 }
 
+// A number, as C reads it in the output.
 fn request_level(three: bool, two: bool, one: bool) -> i64
     ensures { result ≡ Airflow.request_level three two one }
 {
@@ -544,7 +546,7 @@ fn alarms_step(low: LowAirflowStep, sensor_leak: SensorLeakStep) -> Step<AlarmsS
     }
 }
 
-// Level 2 comes before level 3.
+// Level 2 comes before level 3. A number, as C reads it in the output.
 fn low_airflow_level(
     low_half_held: bool,
     low_seventy_held: bool,

@@ -223,6 +223,7 @@ pub struct ControlLoopOutput {
     pub heating: f64,
 }
 
+// The memories of the two loops stand one by one, as the Rust has them and as C has this record.
 #[derive(Clone, Copy, Default)]
 pub struct ControlLoopsState {
     pub cooling_enable: bool,
@@ -416,7 +417,7 @@ pub struct ActiveAirflowOutput {
     pub minimum: f64,
 }
 
-// The flow limits of the operating mode: 1 occupied, 2 and 3 cooldown and setup.
+// The flow limits of the operating mode: 1 occupied, 2 and 3 cooldown and setup. The mode is a number, as C sends it: any other is a mode too.
 pub fn active_airflow(
     operating_mode: i64,
     occupied_minimum: f64,
@@ -448,7 +449,7 @@ impl ZoneStatesState {
         ZoneStatesState::default()
     }
 
-    // 1 heating, 2 deadband, 3 cooling.
+    // 1 heating, 2 deadband, 3 cooling. A number and no enum: the damper takes any i64 for its zone state, and an enum there would ask more of its callers.
     pub fn output(self, heating: f64, cooling: f64) -> Step<ZoneStatesState, i64>
         ensures { result ≡ Conditioning.zone_states self heating cooling }
     {

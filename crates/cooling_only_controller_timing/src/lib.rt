@@ -14,7 +14,7 @@ pub struct Step<S, O> {
     pub output: O,
 }
 
-// Periodic sampler.
+// Periodic sampler. `initialized` is a flag beside the three that it speaks of, since C has this record as it stands.
 #[repr(C)]
 #[derive(Clone, Copy, Default)]
 pub struct SamplerState {
@@ -73,7 +73,7 @@ fn sampler_first_sample(t: f64, input: f64, period: f64) -> SamplerState
     }
 }
 
-// Unit delay of one period: the output that it holds, and the sample staged for the next instant.
+// Unit delay of one period: the output that it holds, and the sample staged for the next instant. Its first three fields are the sampler's and stand as theirs do, since C has this record as it stands.
 #[repr(C)]
 #[derive(Clone, Copy, Default)]
 pub struct UnitDelayState {

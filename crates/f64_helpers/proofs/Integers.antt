@@ -1,5 +1,6 @@
--- What `==ᶻ` means, and that it is what the machine does when it compares the bits of an i64 with those of a literal. Assumes nothing.
-use Rattle.std.proofs.Common.{◌≡◌, ℕ, suc, ◌-◌, ◌^◌, ◌<◌, Bool, true, false, T, eqb, ◌↔◌, ℤ, pos, negsuc, sym, refl, ap, ◌∙◌, subst, arith, eqb→eq, w64, SFits, of_z}
+-- What `==ᶻ` means, and that it is what the machine does when it compares the bits of an i64 with those of a literal; and an i64 through its bits. Assumes nothing.
+use Rattle.std.proofs.Common.{◌≡◌, ℕ, suc, ◌-◌, ◌^◌, ◌<◌, Bool, true, false, T, eqb, ◌↔◌, ℤ, pos, negsuc, sym, refl, ap, ◌∙◌, subst, arith, eqb→eq, w64, SFits, to_z, of_z, to_z-of_z}
+use lib.Signed.{mag}
 use lib.Dec.{eqb_refl}
 use lib.Ieee.Fits.{eq→eqb}
 use Rattle.f64_helpers.specs.Integers.{◌==ᶻ◌}
@@ -29,3 +30,7 @@ is_literal z k f l e = sym (equals_literal z k f l) ∙ shown (eqb (of_z w64 z) 
 
 pub is_not_literal : (z : ℤ) (k : ℕ) → SFits w64 z → k < 2 ^ 63 → (of_z w64 z ≡ k → ⊥) → (z ==ᶻ k) ≡ false
 is_not_literal z k f l e = sym (equals_literal z k f l) ∙ refuted (eqb (of_z w64 z) k) (λ t. e (eqb→eq (of_z w64 z) k t))
+
+-- an i64 comes back from its bits as it was
+pub i64_kept : (z : ℤ) → mag z < 9223372036854775808 → to_z w64 (of_z w64 z) ≡ z
+i64_kept z h = to_z-of_z {w = w64} {z = z} (record { sfits = h })

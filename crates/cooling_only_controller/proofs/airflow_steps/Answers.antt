@@ -2,9 +2,7 @@
 use mathlib.Core.Path.{◌≡◌}
 use lib.Ieee.{Float}
 use Rattle.box_choices.specs.declared.Choices.{Choices}
-use mir.Syntax.{w64}
 use Rattle.std.specs.Prelude.{ℤ}
-use mir.Facts.{to_z-of_z}
 use Rattle.cooling_only_controller_conditioning.specs.Conditioning.{control_loops, setpoints, active_airflow, zone_states}
 use Rattle.cooling_only_controller_conditioning.specs.declared.ControlLoopsState.{ControlLoopsState}
 use Rattle.cooling_only_controller_timing.specs.declared.Step.{Step}
@@ -21,6 +19,7 @@ use Rattle.cooling_only_controller.specs.ControllerPieces.{airflow_steps, setpoi
 use Rattle.cooling_only_controller_conditioning.specs.declared.ControlLoopOutput.{ControlLoopOutput}
 use Rattle.cooling_only_controller_conditioning.specs.declared.SetpointOutput.{SetpointOutput}
 use Rattle.cooling_only_controller_airflow.specs.declared.DamperOutput.{DamperOutput}
+use Rattle.f64_helpers.proofs.Integers.{i64_kept}
 use Rattle.cooling_only_controller.proofs.airflow_steps.Goals as goal
 
 -- the steps, each equal to its definition on what the stages before it gave
@@ -46,8 +45,8 @@ steps_from t input choices l s z d loops wanted_setpoints flows active zone_step
 pub returns : goal.returns
 returns c =
     let a = c.args in
-    let mode = to_z-of_z {w = w64} {z = a.input.operating_mode} (record { sfits = c.struct_told-1.given.1.1.1.1.1.0.1 }) in
-    let zone_is = to_z-of_z {w = w64} {z = c.output-zone.result.output} (record { sfits = c.struct_told-2-1.given.1.0.1 }) in
+    let mode = i64_kept a.input.operating_mode c.struct_told-1.given.1.1.1.1.1.0.1 in
+    let zone_is = i64_kept c.output-zone.result.output c.struct_told-2-1.given.1.0.1 in
     steps_from a.t a.input a.choices a.control_loops a.setpoints a.zone_states a.dampers
     c.output-loops.result
     c.into.result

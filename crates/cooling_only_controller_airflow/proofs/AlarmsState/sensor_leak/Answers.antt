@@ -4,12 +4,10 @@ use lib.Ieee.{of_bits, round}
 use Rattle.f64_helpers.specs.F64.{◌⊗◌, decimal}
 use Rattle.cdl_recurrences.specs.CdlRecurrences.{greater_hysteretic}
 use Rattle.cooling_only_controller_timing.specs.Timing.{true_delay}
-use mir.Facts.{to_z-of_z}
-use Rattle.f64_helpers.proofs.Integers.{equals_literal}
+use Rattle.f64_helpers.proofs.Integers.{i64_kept, equals_literal}
 use lib.Dec.{lit<}
 use Rattle.cooling_only_controller_airflow.specs.Airflow.{FLOW_HYSTERESIS, alarms}
 use Rattle.cooling_only_controller_airflow.proofs.ByPieces.{sensor_input_by_code, sensor_on_by_code}
-use Rattle.std.proofs.Common.{w64}
 use Rattle.cooling_only_controller_airflow.proofs.AlarmsState.sensor_leak.Goals as goal
 
 pub returns : goal.returns
@@ -22,8 +20,8 @@ returns c =
     let fan = input.supply_fan_status in
     let high = greater_hysteretic input.discharge_airflow (decimal 1 10 ⊗ choices.design_cooling_maximum_flow) FLOW_HYSTERESIS self.flow_high in
     rw (
-      to_z-of_z {w = w64} (record { sfits = c.choose-airflow_sensor.type_inv }),
-      to_z-of_z {w = w64} (record { sfits = c.choose-leaking_damper.type_inv }),
+      i64_kept _ c.choose-airflow_sensor.type_inv,
+      i64_kept _ c.choose-leaking_damper.type_inv,
       c.choose-leaking_damper.ensures,
       c.output-leak_held.ensures,
       c.less_hysteretic-damper_closed.ensures,

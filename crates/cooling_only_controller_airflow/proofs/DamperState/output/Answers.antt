@@ -1,9 +1,8 @@
 -- `cooling_only_controller_airflow::DamperState::output` meets its contract. Assumes nothing.
 use lib.Ieee.{of_bits, round}
-use mir.Facts.{to_z-of_z}
 use Rattle.cooling_only_controller_airflow.specs.Airflow.{damper}
 use Rattle.cooling_only_controller_airflow.specs.AirflowPieces.{airflow_override, damper_override, airflow_setpoint}
-use Rattle.std.proofs.Common.{w64}
+use Rattle.f64_helpers.proofs.Integers.{i64_kept}
 use Rattle.cooling_only_controller_airflow.proofs.DamperState.output.Goals as goal
 
 pub returns : goal.returns
@@ -16,5 +15,5 @@ returns c =
       c.clamp-pid_output.ensures,
       c.airflow_setpoint-airflow_setpoint.ensures,
       c.greater_hysteretic-supply_warm.ensures,
-      to_z-of_z {w = w64} (record { sfits = c.struct_told-1.given.1.1.1.1.1.1.1.1.1.0.1 }),
+      i64_kept _ c.struct_told-1.given.1.1.1.1.1.1.1.1.1.0.1,
     )

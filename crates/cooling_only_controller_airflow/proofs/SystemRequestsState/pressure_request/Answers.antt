@@ -1,15 +1,14 @@
 -- `cooling_only_controller_airflow::SystemRequestsState::pressure_request` meets its contract. Assumes nothing.
 use lib.Ieee.{of_bits, round}
-use mir.Facts.{to_z-of_z}
 use Rattle.cooling_only_controller_airflow.specs.Airflow.{system_requests}
-use Rattle.std.proofs.Common.{w64}
+use Rattle.f64_helpers.proofs.Integers.{i64_kept}
 use Rattle.cooling_only_controller_airflow.proofs.SystemRequestsState.pressure_request.Goals as goal
 
 pub returns : goal.returns
 unfolding system_requests of_bits round
 returns c =
     rw (
-      to_z-of_z {w = w64} (record { sfits = c.request_level-pressure.type_inv }),
+      i64_kept _ c.request_level-pressure.type_inv,
       c.request_level-pressure.ensures,
       c.starved-starved_seventy.ensures,
       c.starved-starved_half.ensures,

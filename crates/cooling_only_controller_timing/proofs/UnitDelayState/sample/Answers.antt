@@ -1,9 +1,10 @@
 -- `cooling_only_controller_timing::UnitDelayState::sample` meets its contract. Assumes nothing.
-use Rattle.std.proofs.Common.{◌≡◌, Bool, true, false, not, ℤ, refl, to_z-of_z, w64, if◌then◌else◌}
+use Rattle.std.proofs.Common.{◌≡◌, Bool, true, false, not, ℤ, refl, if◌then◌else◌}
 use lib.Ieee.{Float}
 use Rattle.cooling_only_controller_timing.specs.declared.UnitDelayState.{UnitDelayState}
 use Rattle.cooling_only_controller_timing.specs.declared.Step.{Step}
 use Rattle.cooling_only_controller_timing.specs.Timing.{unit_delay_sample}
+use Rattle.f64_helpers.proofs.Integers.{i64_kept}
 use Rattle.cooling_only_controller_timing.proofs.UnitDelayState.sample.Goals as goal
 
 -- a tick after the first: the step of the fields that the code picks is the step that the definition picks
@@ -18,9 +19,9 @@ unfolding unit_delay_sample
 returns-then-self c =
     let a = c.args in
     let next = c.sample_due-next.result in
-    let last = to_z-of_z {w = w64} {z = a.self.last_index} (record { sfits = c.struct_told-1.given.1.1.0.1 }) in
-    let index = to_z-of_z {w = w64} {z = next.index} (record { sfits = c.struct_told-then-self-1.given.1.0.1 }) in
-    let kept = to_z-of_z {w = w64} {z = c.choose-last_index.result} (record { sfits = c.choose-last_index.type_inv }) in
+    let last = i64_kept a.self.last_index c.struct_told-1.given.1.1.0.1 in
+    let index = i64_kept next.index c.struct_told-then-self-1.given.1.0.1 in
+    let kept = i64_kept c.choose-last_index.result c.choose-last_index.type_inv in
     let due = rw last at c.sample_due-next.ensures in
     let is = rw (index, last) at c.choose-last_index.ensures in
     rw (kept, is, c.choose-staged.ensures, c.choose-held.ensures, c.if-self.true, ← due, by_due a.self a.input next.index next.due)
