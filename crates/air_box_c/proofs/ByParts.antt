@@ -76,18 +76,22 @@ not_zero reason z = none (refusal_number reason) (above_zero reason) (eqb→eq (
     none : (n : ℕ) → 0 < n → n ≡ 0 → ⊥
     none n p e = omega arith
 
-pub tick_stored : (c : AirBoxC) (k : Tick) (w : ControllerOutput) → questions (open_time c.last.time) k ≡ Ok tt
-    → Ticked c k w (stored c k) (lasted c k).output 0
-tick_stored c k w e = record {
-  next_box = rw (stored_is c k, ticks c k (Ok tt) e, open_shut);
+accepted_by : (c : AirBoxC) (k : Tick) (w : ControllerOutput) → questions (open_time c.last.time) k ≡ Ok tt
+    → Ticked c k w (shut_box (accepted_tick (open_box c) k).state) (lasted c k).output 0
+accepted_by c k w e = record {
+  next_box = rw (ticks c k (Ok tt) e, open_shut);
   next_output = rw (ticks c k (Ok tt) e, told_is c k);
   number_told = rw (ticks c k (Ok tt) e, told_is c k);
-  every_field = rw (e, stored_is c k);
+  every_field = rw e;
 }
 
-pub tick_refused : (c : AirBoxC) (k : Tick) (w : ControllerOutput) (reason : Refusal) → questions (open_time c.last.time) k ≡ Err reason
+pub tick_stored : (c : AirBoxC) (k : Tick) (w : ControllerOutput) → questions (open_time c.last.time) k ≡ Ok tt
+    → Ticked c k w (stored c k) (lasted c k).output 0
+tick_stored c k w e = rw (stored_is c k) (accepted_by c k w e)
+
+pub refused_by : (c : AirBoxC) (k : Tick) (w : ControllerOutput) (reason : Refusal) → questions (open_time c.last.time) k ≡ Err reason
     → Ticked c k w c w (refusal_number reason)
-tick_refused c k w reason e = record {
+refused_by c k w reason e = record {
   next_box = rw (ticks c k (Err reason) e);
   next_output = rw (ticks c k (Err reason) e);
   number_told = rw (ticks c k (Err reason) e);

@@ -20,7 +20,7 @@ use Rattle.air_box_c.specs.declared.stages.AfterSuppression.{AfterSuppression}
 use Rattle.air_box_c.specs.declared.stages.AfterDampers.{AfterDampers}
 use Rattle.air_box_c.specs.declared.stages.AfterRequests.{AfterRequests}
 use Rattle.air_box_c.specs.declared.stages.AfterAlarms.{AfterAlarms}
-use Rattle.air_box_c.proofs.ByParts.{begins, tick_stored, tick_refused}
+use Rattle.air_box_c.proofs.ByParts.{begins, tick_stored, refused_by}
 use Rattle.air_box_c.proofs.air_box_tick.Goals as goal
 
 -- what the questions decided, by what the stages begin with
@@ -53,4 +53,4 @@ returns-in-Err c =
     let b = c.args.b.now in
     let k = c.args.tick.now in
     let first_no = refuses (questions (open_time b.last.time) k) (begins b k) c.in-Err.reason (sym c.question.ensures ∙ c.in-Err.is) in
-    rw c.into.ensures (tick_refused b k c.args.output.now c.in-Err.reason first_no)
+    rw c.into.ensures (refused_by b k c.args.output.now c.in-Err.reason first_no)
