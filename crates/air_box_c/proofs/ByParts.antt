@@ -23,7 +23,7 @@ use Rattle.air_box.specs.declared.Refusal.{Refusal}
 use Rattle.air_box.proofs.Demands.{above_zero}
 use Rattle.air_box_c.specs.Records.{open_time, open_controller, open_box, shut_box}
 use Rattle.air_box_c.specs.Promises.{Ticked}
-use Rattle.air_box_c.specs.Stages.{suppression_tick, airflow_tick, requests_tick, alarms_tick, last_tick}
+use Rattle.air_box_c.specs.Stages.{begun, questioned, suppression_tick, airflow_tick, requests_tick, alarms_tick, last_tick}
 use Rattle.air_box_c.specs.declared.records.AirBoxC.{AirBoxC}
 use Rattle.air_box_c.proofs.OpenShut.{open_shut}
 
@@ -85,11 +85,7 @@ accepted_by c k w e = record {
   every_field = rw e;
 }
 
-pub tick_stored : (c : AirBoxC) (k : Tick) (w : ControllerOutput) → questions (open_time c.last.time) k ≡ Ok tt
-    → Ticked c k w (stored c k) (lasted c k).output 0
-tick_stored c k w e = rw (stored_is c k) (accepted_by c k w e)
-
-pub refused_by : (c : AirBoxC) (k : Tick) (w : ControllerOutput) (reason : Refusal) → questions (open_time c.last.time) k ≡ Err reason
+refused_by : (c : AirBoxC) (k : Tick) (w : ControllerOutput) (reason : Refusal) → questions (open_time c.last.time) k ≡ Err reason
     → Ticked c k w c w (refusal_number reason)
 refused_by c k w reason e = record {
   next_box = rw (ticks c k (Err reason) e);
@@ -97,3 +93,20 @@ refused_by c k w reason e = record {
   number_told = rw (ticks c k (Err reason) e);
   every_field = rw e;
 }
+
+-- what the questions decided, by what the stages begin with
+pub accepts : (v : Result ⊤ Refusal) (s start : TickStart) → begun v s ≡ Ok start → (v ≡ Ok tt) × (start ≡ s)
+accepts (Ok tt) s start e = (refl, cc)
+accepts (Err reason) s start e = (cc, cc)
+
+refuses : (v : Result ⊤ Refusal) (s : TickStart) (reason : Refusal) → begun v s ≡ Err reason → v ≡ Err reason
+refuses (Ok tt) s reason e = cc
+refuses (Err first) s reason e = cc
+
+pub tick_stored : (c : AirBoxC) (k : Tick) (w : ControllerOutput) (start : TickStart) → questioned c.last k ≡ Ok start
+    → Ticked c k w (stored c k) (lasted c k).output 0
+tick_stored c k w start is = rw (stored_is c k) (accepted_by c k w (accepts (questions (open_time c.last.time) k) (begins c k) start is).0)
+
+pub tick_refused : (c : AirBoxC) (k : Tick) (w : ControllerOutput) (reason : Refusal) → questioned c.last k ≡ Err reason
+    → Ticked c k w c w (refusal_number reason)
+tick_refused c k w reason is = refused_by c k w reason (refuses (questions (open_time c.last.time) k) (begins c k) reason is)

@@ -20,17 +20,8 @@ use Rattle.air_box_c.specs.declared.stages.AfterSuppression.{AfterSuppression}
 use Rattle.air_box_c.specs.declared.stages.AfterDampers.{AfterDampers}
 use Rattle.air_box_c.specs.declared.stages.AfterRequests.{AfterRequests}
 use Rattle.air_box_c.specs.declared.stages.AfterAlarms.{AfterAlarms}
-use Rattle.air_box_c.proofs.ByParts.{begins, tick_stored, refused_by}
+use Rattle.air_box_c.proofs.ByParts.{begins, accepts, tick_stored, tick_refused}
 use Rattle.air_box_c.proofs.air_box_tick.Goals as goal
-
--- what the questions decided, by what the stages begin with
-accepts : (v : Result ⊤ Refusal) (s start : TickStart) → begun v s ≡ Ok start → (v ≡ Ok tt) × (start ≡ s)
-accepts (Ok tt) s start e = (refl, cc)
-accepts (Err reason) s start e = (cc, cc)
-
-refuses : (v : Result ⊤ Refusal) (s : TickStart) (reason : Refusal) → begun v s ≡ Err reason → v ≡ Err reason
-refuses (Ok tt) s reason e = cc
-refuses (Err first) s reason e = cc
 
 taken : (c : AirBoxC) (k : Tick) (w : ControllerOutput) (start : TickStart)
     (r₀ : Step TimeSuppressionC AfterSuppression) (r₁ : Step AirflowC AfterDampers) (r₂ : Step SystemRequestsC AfterRequests) (r₃ : Step AlarmsC AfterAlarms) (r₄ : Step LastTickC ControllerOutput)
@@ -38,8 +29,8 @@ taken : (c : AirBoxC) (k : Tick) (w : ControllerOutput) (start : TickStart)
     → r₂ ≡ requests_tick c.system_requests r₁.output → r₃ ≡ alarms_tick c.alarms r₂.output → r₄ ≡ last_tick c.last r₃.output
     → Ticked c k w (record { time_suppression = r₀.state; airflow = r₁.state; system_requests = r₂.state; alarms = r₃.state; last = r₄.state }) r₄.output 0
 taken c k w start r₀ r₁ r₂ r₃ r₄ is e₀ e₁ e₂ e₃ e₄ =
-    let a = accepts (questions (open_time c.last.time) k) (begins c k) start is in
-    rw (e₄, e₃, e₂, e₁, e₀, a.1) (tick_stored c k w a.0)
+    let begun_there = (accepts (questions (open_time c.last.time) k) (begins c k) start is).1 in
+    rw (e₄, e₃, e₂, e₁, e₀, begun_there) (tick_stored c k w start is)
 
 pub returns-in-Ok : goal.returns-in-Ok
 returns-in-Ok c =
@@ -50,7 +41,4 @@ returns-in-Ok c =
 
 pub returns-in-Err : goal.returns-in-Err
 returns-in-Err c =
-    let b = c.args.b.now in
-    let k = c.args.tick.now in
-    let first_no = refuses (questions (open_time b.last.time) k) (begins b k) c.in-Err.reason (sym c.question.ensures ∙ c.in-Err.is) in
-    rw c.into.ensures (refused_by b k c.args.output.now c.in-Err.reason first_no)
+    rw c.into.ensures (tick_refused c.args.b.now c.args.tick.now c.args.output.now c.in-Err.reason (sym c.question.ensures ∙ c.in-Err.is))
