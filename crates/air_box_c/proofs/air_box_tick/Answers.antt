@@ -1,14 +1,12 @@
 -- `air_box_c::air_box_tick` meets its contract: the parts, run one after the other in their places, leave the record that ByParts.antt has. Assumes nothing.
-use Rattle.std.proofs.Common.{◌≡◌, Result, Ok, Err, refl, sym, ◌∙◌}
-use Rattle.std.specs.Prelude.{⊤}
+use Rattle.std.proofs.Common.{◌≡◌, Ok, sym, ◌∙◌}
 use Rattle.cooling_only_controller.specs.declared.ControllerOutput.{ControllerOutput}
 use Rattle.cooling_only_controller_timing.specs.declared.Step.{Step}
 use Rattle.air_box.specs.AirBox.{questions}
-use Rattle.air_box.specs.declared.Refusal.{Refusal}
 use Rattle.air_box.specs.declared.Tick.{Tick}
 use Rattle.air_box_c.specs.Promises.{Ticked}
 use Rattle.air_box_c.specs.Records.{open_time}
-use Rattle.air_box_c.specs.Stages.{begun, questioned, suppression_tick, airflow_tick, requests_tick, alarms_tick, last_tick}
+use Rattle.air_box_c.specs.Stages.{questioned, suppression_tick, airflow_tick, requests_tick, alarms_tick, last_tick}
 use Rattle.air_box_c.specs.declared.records.AirBoxC.{AirBoxC}
 use Rattle.air_box_c.specs.declared.records.TimeSuppressionC.{TimeSuppressionC}
 use Rattle.air_box_c.specs.declared.records.AirflowC.{AirflowC}
