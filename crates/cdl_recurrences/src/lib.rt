@@ -1,4 +1,4 @@
-// The recurrences of cdl_recurrences.rs that the controller calls, in that file's order. Where the Rust takes slices and `[0]` is read, one value goes in and one comes out.
+// The recurrences of cdl_recurrences.rs that the controller calls, in that file's order. Their parameters are the Rust's, one by one and in its order; a record of them would stand between the two. Where the Rust takes slices and `[0]` is read, one value goes in and one comes out.
 #![tactic(auto)]
 
 ghost use Rattle.std.specs.Prelude.{◌≡◌, not, T};
