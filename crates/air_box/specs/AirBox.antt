@@ -139,7 +139,7 @@ design_flows_within choices =
 unfoldable pub build : Choices → Result AirBox BuildRefusal
 build choices = if design_flows_within choices then Ok (unticked choices) else Err DesignFlowOutOfRange
 
--- document 02's number of the reason
+-- the number of the reason
 abbrev pub build_refusal_number : BuildRefusal → ℕ
 build_refusal_number DesignFlowOutOfRange = 8
 

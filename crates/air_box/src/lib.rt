@@ -52,7 +52,7 @@ pub enum Refusal {
 // A tick's answer: the ten outputs, or the refusal.
 pub type Answer = Result<ControllerOutput, Refusal>;
 
-// The box after a tick, and its answer. No `Step`: the claims about nights speak of the answer by its name.
+// The box after a tick, and its answer. No `Step`: its `output` would be read as the ten outputs, which an answer has only where the tick is accepted.
 #[derive(Clone, Copy)]
 pub struct AirBoxStep {
     pub state: AirBox,
@@ -92,7 +92,7 @@ impl fmt::Display for Refusal {
 
 impl Error for Refusal {}
 
-// Document 02's number of the reason.
+// The number of the reason.
 impl From<BuildRefusal> for u8 {
     ghost from_gives = { λ refusal number. number ≡ AirBoxes.build_refusal_number refusal };
 

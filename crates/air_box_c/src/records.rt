@@ -1,4 +1,4 @@
-// The records of the C interface: one for each stage record that holds a time, since an exported signature takes no Option, and the box as a record of them.
+// The records of the C interface: one for each stage record that holds a time, since an exported signature takes no Option, nor a record with a type parameter that would leave it open, and the box as a record of them.
 // A record converts into the state that it stands for (`open` in the definitions), and a state into its record (`shut`).
 ghost use Rattle.std.specs.Prelude.{◌≡◌};
 ghost use Rattle.air_box_c.specs.Records as Records;
@@ -419,7 +419,7 @@ impl From<AlarmsState> for AlarmsC {
     }
 }
 
-// The states from the control loops to the damper, which one call of the controller runs.
+// The states from the control loops to the damper, which one call of the controller runs. `shut` is no `From`: the controller has no record of these four.
 #[repr(C)]
 #[derive(Clone, Copy)]
 pub struct AirflowC {

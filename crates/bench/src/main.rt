@@ -106,7 +106,7 @@ fn refusals_of_time(rt: HostRuntime) {
     let fresh = AirBox::fresh(Start::Plain);
     for (label, t) in [
         ("t 0.5 gives", 0.5),
-        ("t infinity gives", 1.0 / 0.0),
+        ("t infinity gives", f64::INFINITY),
         ("t -1 gives", -1.0),
         ("t -0.0 gives", -0.0),
         ("t 2147483648 gives", 2147483648.0),
@@ -133,7 +133,7 @@ fn refusals_of_readings(rt: HostRuntime) {
         ("zone 149.9 gives", 0.0, 149.9, 600.0, 0.5),
         ("CO2 10000.5 gives", 0.0, 296.0, 10000.5, 0.5),
         ("flow -10.5 gives", 0.0, 296.0, 600.0, -10.5),
-        ("t 0.5 with zone NaN gives", 0.5, 0.0 / 0.0, 600.0, 0.5),
+        ("t 0.5 with zone NaN gives", 0.5, f64::NAN, 600.0, 0.5),
     ] {
         let input = ControllerInput {
             zone_temperature,
@@ -164,7 +164,7 @@ fn quiet_start(rt: HostRuntime) {
         if armed & !armed_before {
             print(rt, "quiet start armed at", seconds);
         }
-        let alarm = outputs(step).is_some_and(|output| output.low_airflow_alarm != 0);
+        let alarm = outputs(step).is_none_or(|output| output.low_airflow_alarm != 0);
         if alarm & !alarm_before {
             print(rt, "quiet start low alarm at", seconds);
         }
@@ -208,13 +208,15 @@ fn leak_and_low_flow(rt: HostRuntime) {
         let seconds = minute * 60;
         let step = b.tick(shut(std::num::nearest_u64_to_f64(seconds), 0.3, true));
         b = step.state;
-        if let Some(output) = outputs(step) {
-            let now = (output.low_airflow_alarm, output.leaking_damper_alarm);
-            if now != before {
-                print_codes(rt, seconds, output);
-            }
-            before = now;
+        let Some(output) = outputs(step) else {
+            print(rt, "leak and low flow refused at", seconds);
+            continue;
+        };
+        let now = (output.low_airflow_alarm, output.leaking_damper_alarm);
+        if now != before {
+            print_codes(rt, seconds, output);
         }
+        before = now;
     }
 }
 
@@ -247,28 +249,6 @@ fn flow_of_0_145(rt: HostRuntime) {
     print_flow(rt, "flow 0.145 after 0.16", after, 60.0, 0.145);
 }
 
-// No f64 lies between the two: half way rounds to one of them.
-fn neighbours(lower: f64, upper: f64) -> bool {
-    let half_way = 0.5 * (lower + upper);
-    (lower < upper) & ((half_way == lower) | (half_way == upper))
-}
-
-// More than half of x's last place and hardly more than one: added or taken away, it rounds to the next f64.
-fn part_of_last_place(x: f64) -> f64 {
-    1.1102230246251568e-16 * f64_helpers::abs(x)
-}
-
-// The next f64 above x; x itself where that is not found, and then the row is another.
-fn next_up(x: f64) -> f64 {
-    let up = x + part_of_last_place(x);
-    f64_helpers::choose(neighbours(x, up), up, x)
-}
-
-fn next_down(x: f64) -> f64 {
-    let down = x - part_of_last_place(x);
-    f64_helpers::choose(neighbours(down, x), down, x)
-}
-
 // Whether memory decides at a reading. Both flags have to say so, and both answers bear it out.
 fn by_memory(off: DeadBandOutput, on: DeadBandOutput) -> Seen {
     let differ = off.output != on.output;
@@ -299,33 +279,33 @@ fn print_ends<F: Fn(f64, bool) -> DeadBandOutput>(
 // Every dead band of the controller. One that moves with another reading stands where that is at a usual number.
 fn dead_bands(rt: HostRuntime) {
     for (label, low, high) in [
-        ("heating_signal, cooling_signal", 0.01, 0.05),
+        ("heating_signal, cooling_signal", 0.01f64, 0.05f64),
         ("heating_tiebreak", -0.01, 0.01),
         ("hot_three", 2.75, 3.0),
         ("hot_two", 1.75, 2.0),
         ("cooling_high, damper_high", 0.94, 0.95),
         ("setpoint_on, setpoint_nonzero", 0.005, 0.01),
     ] {
-        let ends = [next_down(low), low, high, next_up(high)];
+        let ends = [low.next_down(), low, high, high.next_up()];
         print_ends(rt, label, ends, |u, on| hysteresis(u, low, high, on));
     }
     for (label, u2, h) in [
-        ("cooling_enable, heating_enable", 297.0, 0.25),
+        ("cooling_enable, heating_enable", 297.0f64, 0.25f64),
         ("cooling_near_zero, heating_near_zero", 0.01, 0.008),
         ("low_half", 0.5 * 0.5, 0.01),
         ("damper_closed", 0.01, 0.5 * 0.01),
     ] {
-        let ends = [next_down(u2), u2, next_down(u2 + h), u2 + h];
+        let ends = [u2.next_down(), u2, (u2 + h).next_down(), u2 + h];
         print_ends(rt, label, ends, |u, on| less_hysteretic(u, u2, h, on));
     }
     for (label, u2, h) in [
-        ("change_detected", 0.25, 0.5 * 0.25),
+        ("change_detected", 0.25f64, 0.5f64 * 0.25),
         ("cooling_supply", 288.0, 0.25),
         ("supply_warm", 296.0, 0.25),
         ("starved_half, starved_seventy, low_seventy", 0.3, 0.01),
         ("flow_high", 0.1 * 1.5, 0.01),
     ] {
-        let ends = [u2 - h, next_up(u2 - h), u2, next_up(u2)];
+        let ends = [u2 - h, (u2 - h).next_up(), u2, u2.next_up()];
         print_ends(rt, label, ends, |u, on| greater_hysteretic(u, u2, h, on));
     }
 }

@@ -1,4 +1,4 @@
--- Some every threshold of the list the answer turns where it should: both sides compute. Assumes nothing.
+-- At every threshold of the list the answer turns where it should: both sides compute. Assumes nothing.
 use mathlib.Core.Path.{refl}
 use lib.Ieee.{of_bits, of_int, round, add, sub, mul, div, lt, le, eq, is_nan, to_signed}
 use Rattle.f64_helpers.specs.Helpers.{floor, ceil, max, min}

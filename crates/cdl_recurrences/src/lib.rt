@@ -20,7 +20,7 @@ pub struct DeadBandOutput {
     pub decided_by_memory: bool,
 }
 
-// Whether a sample is due, and the index of the sample instant. No Option: there is an index, and it is told, whether a sample is due or not.
+// Whether a sample is due, and the index of the sample instant. No Option: the contract promises the index whether a sample is due or not.
 #[derive(Clone, Copy)]
 pub struct SampleDue {
     pub due: bool,
@@ -146,6 +146,7 @@ fn true_delay_running(
     }
 }
 
+// No caller: `SamplerState::sample` asks `sample_due` once, for what it gives and for what it stores.
 pub fn sampler_output(
     t: f64,
     input: f64,

@@ -16,6 +16,7 @@ use cooling_only_controller_conditioning::{
 };
 use cooling_only_controller_timing::Step;
 
+// The mode and the overrides are numbers, and any is one: C has this record as it stands.
 #[repr(C)]
 #[derive(Clone, Copy)]
 pub struct ControllerInput {
@@ -35,6 +36,7 @@ pub struct ControllerInput {
     pub supply_fan_status: bool,
 }
 
+// The levels are numbers: C has this record as it stands.
 #[repr(C)]
 #[derive(Clone, Copy)]
 pub struct ControllerOutput {
@@ -111,7 +113,7 @@ impl ControllerState {
     }
 }
 
-// The stages from the control loops to the damper, each fed by those before it.
+// The stages from the control loops to the damper, each fed by those before it. Their states come one by one: the controller has them among others, C in a record of its own.
 pub fn airflow_steps(
     t: f64,
     input: ControllerInput,

@@ -1,5 +1,6 @@
 // Airflow, system requests and alarms, as in cooling_only_controller_airflow.rs.
 // A stage takes the tick's time, its input and the box's choices one by one: `t` and `input` are the Rust's, `t` goes on to the blocks alone, and the choices are a record already.
+// Modes, zone states and overrides are numbers, since a caller may pass any i64, and levels are, since C reads them.
 #![tactic(auto)]
 
 ghost use Rattle.std.specs.Prelude.{◌≡◌};
@@ -11,6 +12,7 @@ use cdl_recurrences::{greater_hysteretic, hysteresis, less_hysteretic};
 use cooling_only_controller_timing::{SamplerState, Step, TrueDelayState};
 use f64_helpers::choose;
 
+// Two of these the other source file has as well, in the Rust too.
 const TEMPERATURE_HYSTERESIS: f64 = 0.25;
 
 const FLOW_HYSTERESIS: f64 = 0.01;
@@ -54,7 +56,7 @@ impl DamperState {
         DamperState::default()
     }
 
-    // The PI's output is formed with the old integrator, which a starting fan resets.
+    // The PI's output is formed with the old integrator, which a starting fan resets. The loops' PI is written out likewise, as in the Rust.
     pub fn output(
         self,
         t: f64,
@@ -177,7 +179,7 @@ pub struct SystemRequestsState {
     pub starved_seventy: bool,
 }
 
-// The memories of the temperature request after a tick, and its level.
+// The memories of the temperature request after a tick, and its level. No `Step`, like the three others of this kind: the memories are some of the stage's, and no state of their own.
 #[derive(Clone, Copy)]
 struct TemperatureRequestStep {
     hot_three: bool,

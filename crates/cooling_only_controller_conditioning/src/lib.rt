@@ -1,4 +1,4 @@
-// Conditioning, ventilation and zone state, as in cooling_only_controller_conditioning.rs: latch, time suppression, PI loop, control loops, setpoints, active airflow, zone states.
+// Conditioning, ventilation and zone state, as in cooling_only_controller_conditioning.rs. A stage takes the tick's time, its input and the choices one by one, since `t` alone goes on to the blocks. In order: latch, time suppression, PI loop, control loops, setpoints, active airflow, zone states.
 #![tactic(auto)]
 
 ghost use Rattle.std.specs.Prelude.{◌≡◌};
@@ -83,7 +83,7 @@ pub struct TimeSuppressionState {
     pub captured_zone: f64,
 }
 
-// Whether a setpoint change is seen: the state of the three blocks that look for one, and the answer.
+// Whether a setpoint change is seen: the state of the three blocks that look for one, and the answer, which is a memory too; so it is no `Step`.
 #[derive(Clone, Copy)]
 struct ChangeStep {
     setpoint_sampler: SamplerState,
@@ -191,7 +191,7 @@ impl LoopPiState {
         LoopPiState::default()
     }
 
-    // The output is formed with the old integrator.
+    // The output is formed with the old integrator. The damper's PI is written out likewise, as in the Rust: one for both would take gain, time, reset and error besides.
     pub fn output(self, t: f64, error: f64, trigger: bool) -> Step<LoopPiState, f64>
         ensures { result ≡ Conditioning.loop_pi self t error trigger }
     {
@@ -223,7 +223,7 @@ pub struct ControlLoopOutput {
     pub heating: f64,
 }
 
-// The memories of the two loops stand one by one, as the Rust has them and as C has this record.
+// The memories of the two loops stand one by one under the Rust's names: as two `LoopState`s the record would no longer read like the Rust, its definition and C's record.
 #[derive(Clone, Copy, Default)]
 pub struct ControlLoopsState {
     pub cooling_enable: bool,

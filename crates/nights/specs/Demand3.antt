@@ -54,7 +54,7 @@ abbrev pub ExactGiven : Choices → List Tick → Tick → ControllerOutput ⊎ 
 ExactGiven choices earlier k (inl output) = AllYes (last_time earlier) k × ExactAlarm choices earlier k output.airflow_sensor_alarm
 ExactGiven choices earlier k (inr number) = (reason : Refusal) × FirstNo reason (last_time earlier) k × (number ≡ refusal_number reason)
 
--- Some every tick of every night what is given is right.
+-- At every tick of every night what is given is right.
 abbrev pub EveryNightExactly : Choices → Type 0
 EveryNightExactly choices =
     (night : List Tick)

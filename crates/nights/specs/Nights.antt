@@ -106,7 +106,7 @@ abbrev pub flow_high_stepped : Float → Bool → List Tick → Bool
 flow_high_stepped limit high [] = high
 flow_high_stepped limit high (k ∷ ks) = flow_high_stepped limit (greater_hysteretic (flow k) limit (decimal 1 100) high) ks
 
--- Some the accepted tick k, before which those of `earlier` were accepted: flow is high with the fan off.
+-- At the accepted tick k, before which those of `earlier` were accepted: flow is high with the fan off.
 abbrev pub HighFanOff : Float → List Tick → Tick → Type 0
 HighFanOff limit earlier k = FlowHigh limit (earlier ++ (k ∷ [])) × T (not (fan k))
 
