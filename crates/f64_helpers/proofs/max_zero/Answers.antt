@@ -4,8 +4,7 @@ use lib.Dec.{not_T}
 use lib.Ieee.{Float, fin, of_bits, lt, eq, le, is_nan}
 use Rattle.f64_helpers.specs.F64.{zero}
 use Rattle.f64_helpers.specs.Helpers.{max, negative}
-use Rattle.f64_helpers.proofs.Tests.{yes, no}
-use mathlib.Core.Bool.{and-false}
+use Rattle.f64_helpers.proofs.Tests.{yes, no, and_false}
 use lib.Ieee.Bits.{is_false}
 use Rattle.std.proofs.lemmas.Float.{le_right, le_of_lt, le_of_eq}
 use Rattle.f64_helpers.proofs.LargerOfTwo.{max_by_tests}
@@ -26,7 +25,7 @@ not_above x h = by (is_nan x) (lt x zero) (eq x zero) refl refl refl
     by : (n l a : Bool) → is_nan x ≡ n → lt x zero ≡ l → eq x zero ≡ a → zero ≡ max x zero
     by true l a N L A = max_by_tests x zero true l a (eq zero zero) N L A refl
     by false true a N L A = max_by_tests x zero false true a (eq zero zero) N L A refl
-    by false false true N L A = ap (λ (s : Bool). fin s 0 (pos 0)) (sym (and-false (negative x))) ∙ max_by_tests x zero false false true true N L A refl
+    by false false true N L A = ap (λ (s : Bool). fin s 0 (pos 0)) (sym (and_false (negative x))) ∙ max_by_tests x zero false false true true N L A refl
     by false false false N L A = absurd (subst T (λ i. not (not (L i || A i))) (subst (λ (b : Bool). T (not b)) (lt_is_not_le zero x tt (no N)) h))
 
 pub returns-then-x : goal.returns-then-x
