@@ -7,7 +7,7 @@ use mathlib.Core.Bool.{Bool, true, false, or-false}
 use lib.Dec.{T}
 use lib.Ieee.{Float}
 use Rattle.f64_helpers.specs.F64.{◌⊕◌, ◌⊖◌, ◌<ᶠ◌, ◌>ᶠ◌, ◌≤ᶠ◌, ◌≥ᶠ◌}
-use Rattle.f64_helpers.proofs.Order.{le_lt, lt_le, lt→le}
+use Rattle.std.proofs.lemmas.Float.{le_of_lt, lt_of_le_of_lt, lt_of_lt_of_le}
 use Rattle.cdl_recurrences.specs.CdlRecurrences.{hysteresis, less_hysteretic, greater_hysteretic}
 use Rattle.cdl_recurrences.specs.DeadBand.{dead_band, dead_band_after, AllStay, Latched, Related, hysteresis_after, less_hysteretic_after, greater_hysteretic_after}
 
@@ -70,18 +70,18 @@ greater_hysteretic_is u2 h previous u1 = refl
 
 pub hysteresis_law : (u_low u_high : Float) → T (u_low ≤ᶠ u_high) → (us : List Float) → T (hysteresis_after u_low u_high us) ↔ Latched (λ u. u >ᶠ u_high) (λ u. u ≥ᶠ u_low) us
 unfolding hysteresis
-hysteresis_law u_low u_high l = dead_band_law (λ u. u >ᶠ u_high) (λ u. u ≥ᶠ u_low) (λ u p. lt→le u_low u (le_lt u_low u_high u l p))
+hysteresis_law u_low u_high l = dead_band_law (λ u. u >ᶠ u_high) (λ u. u ≥ᶠ u_low) (λ u p. le_of_lt u_low u (lt_of_le_of_lt u_low u_high u l p))
 
 pub less_hysteretic_law : (u2 h : Float) → T (u2 ≤ᶠ u2 ⊕ h) → (us : List Float) → T (less_hysteretic_after u2 h us) ↔ Latched (λ u1. u1 <ᶠ u2) (λ u1. u1 <ᶠ u2 ⊕ h) us
 unfolding less_hysteretic
-less_hysteretic_law u2 h l = dead_band_law (λ u1. u1 <ᶠ u2) (λ u1. u1 <ᶠ u2 ⊕ h) (λ u1 p. lt_le u1 u2 (u2 ⊕ h) p l)
+less_hysteretic_law u2 h l = dead_band_law (λ u1. u1 <ᶠ u2) (λ u1. u1 <ᶠ u2 ⊕ h) (λ u1 p. lt_of_lt_of_le u1 u2 (u2 ⊕ h) p l)
 
 pub greater_hysteretic_law : (u2 h : Float) → T (u2 ⊖ h ≤ᶠ u2) → (us : List Float) → T (greater_hysteretic_after u2 h us) ↔ Latched (λ u1. u1 >ᶠ u2) (λ u1. u1 >ᶠ u2 ⊖ h) us
 unfolding greater_hysteretic
-greater_hysteretic_law u2 h l = dead_band_law (λ u1. u1 >ᶠ u2) (λ u1. u1 >ᶠ u2 ⊖ h) (λ u1 p. le_lt (u2 ⊖ h) u2 u1 l p)
+greater_hysteretic_law u2 h l = dead_band_law (λ u1. u1 >ᶠ u2) (λ u1. u1 >ᶠ u2 ⊖ h) (λ u1 p. lt_of_le_of_lt (u2 ⊖ h) u2 u1 l p)
 
 -- If no reading of the second history is lower than that of the first, then `greater_hysteretic` is on after the second if it is on after the first.
 pub greater_hysteretic_two_histories : (u2 h : Float) → T (u2 ⊖ h ≤ᶠ u2) → (us vs : List Float) → Related (λ u v. T (u ≤ᶠ v)) us vs → T (greater_hysteretic_after u2 h us) → T (greater_hysteretic_after u2 h vs)
 unfolding greater_hysteretic
 greater_hysteretic_two_histories u2 h l =
-    dead_band_two_histories (λ u1. u1 >ᶠ u2) (λ u1. u1 >ᶠ u2 ⊖ h) (λ u1 p. le_lt (u2 ⊖ h) u2 u1 l p) (λ u v. T (u ≤ᶠ v)) (λ u v r p. lt_le u2 u v p r) (λ u v r p. lt_le (u2 ⊖ h) u v p r)
+    dead_band_two_histories (λ u1. u1 >ᶠ u2) (λ u1. u1 >ᶠ u2 ⊖ h) (λ u1 p. lt_of_le_of_lt (u2 ⊖ h) u2 u1 l p) (λ u v. T (u ≤ᶠ v)) (λ u v r p. lt_of_lt_of_le u2 u v p r) (λ u v r p. lt_of_lt_of_le (u2 ⊖ h) u v p r)

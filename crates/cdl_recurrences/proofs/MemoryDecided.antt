@@ -5,7 +5,8 @@ use mathlib.Core.Bool.{Bool, true, false, not, xor, ◌&&◌, true≢false}
 use lib.Dec.{T}
 use lib.Ieee.{Float, binary64, neg, add, sub, mul, lt, is_nan, fits, round}
 use Rattle.f64_helpers.specs.F64.{◌⊕◌, ◌⊖◌, ◌<ᶠ◌, ◌>ᶠ◌, ◌≥ᶠ◌, zero}
-use Rattle.f64_helpers.proofs.Order.{le_lt, lt_le, lt→le, in_order, number_at_most, number_below}
+use Rattle.std.proofs.lemmas.Float.{le_of_lt, lt_of_le_of_lt, lt_of_lt_of_le}
+use Rattle.f64_helpers.proofs.Order.{in_order, number_at_most, number_below}
 use Rattle.f64_helpers.proofs.Sums.{nan_sum, nan_difference, below_raised, above_raised, below_lowered, above_lowered}
 use Rattle.cdl_recurrences.specs.CdlRecurrences.{hysteresis, less_hysteretic, greater_hysteretic, decided_by_memory, dead_band_output}
 use Rattle.cdl_recurrences.specs.CdlPieces.{dead_band_by_tests}
@@ -77,8 +78,8 @@ hysteresis_band u u_low u_high previous =
     let on = u >ᶠ u_high in
     let stay = u ≥ᶠ u_low in
     record {
-      upright = λ l. kept on stay previous (λ p. lt→le u_low u (le_lt u_low u_high u l p));
-      turned_round = λ l. turned on stay previous (λ p. lt_le u_high u_low u l p);
+      upright = λ l. kept on stay previous (λ p. le_of_lt u_low u (lt_of_le_of_lt u_low u_high u l p));
+      turned_round = λ l. turned on stay previous (λ p. lt_of_lt_of_le u_high u_low u l p);
       low_nan = λ n. only_turning on stay previous (number_at_most u_low u (inl n));
       high_nan = λ n. only_staying on stay previous (number_below u_high u (inl n));
       ends_nan = λ l h. neither on stay previous (number_below u_high u (inl h)) (number_at_most u_low u (inl l));
@@ -92,7 +93,7 @@ less_band u1 u2 h previous held =
     let stay = u1 <ᶠ u2 ⊕ h in
     record {
       upright = λ l. kept on stay previous (below_raised u1 u2 h held l);
-      turned_round = λ l. turned on stay previous (below_lowered u1 u2 h held (lt→le h zero l));
+      turned_round = λ l. turned on stay previous (below_lowered u1 u2 h held (le_of_lt h zero l));
       h_nan = λ n. only_turning on stay previous (number_below u1 (u2 ⊕ h) (inr (nan_sum u2 h (inr n))));
       nan_compared = λ n. neither on stay previous (number_below u1 u2 n) (number_below u1 (u2 ⊕ h) (⊎_elim inl (λ z. inr (nan_sum u2 h (inl z))) n));
     }
@@ -104,7 +105,7 @@ greater_band u1 u2 h previous held =
     let stay = u1 >ᶠ u2 ⊖ h in
     record {
       upright = λ l. kept on stay previous (above_lowered u1 u2 h held l);
-      turned_round = λ l. turned on stay previous (above_raised u1 u2 h held (lt→le h zero l));
+      turned_round = λ l. turned on stay previous (above_raised u1 u2 h held (le_of_lt h zero l));
       h_nan = λ n. only_turning on stay previous (number_below (u2 ⊖ h) u1 (inl (nan_difference u2 h (inr n))));
       nan_compared = λ n. neither on stay previous (number_below u2 u1 (swap n)) (number_below (u2 ⊖ h) u1 (⊎_elim inr (λ z. inl (nan_difference u2 h (inl z))) n));
     }

@@ -6,7 +6,7 @@ use native.Mathlib.Omega.{arith}
 use mathlib.Core.Logic.{◌⊎◌, inl, inr}
 use mathlib.Core.Bool.{Bool, true, false}
 use lib.IntN.{ℤ, pos, negsuc}
-use lib.Dec.{T, ltb, ltb→lt, lt→ltb, lit≤}
+use lib.Dec.{T, ltb, lit≤}
 use lib.Ieee.{Float, nan, inf, fin, binary64, unlike, up, down, round, add, sub, div, neg, fits}
 use lib.Ieee.Fits.{down_pos, div-fits}
 use lib.Ieee.Exact.{HasValue}
@@ -16,7 +16,9 @@ use Rattle.f64_helpers.specs.F64.{◌⊕◌, ◌⊖◌, ◌⊗◌, ◌⊘◌, �
 use Rattle.std.specs.Prelude.{if◌then◌else◌}
 use Rattle.f64_helpers.specs.Helpers.{floor, ceil, negative}
 use Rattle.f64_helpers.specs.Seconds.{Whole, seconds, is_time}
-use Rattle.f64_helpers.proofs.WholeSeconds.{zero_whole, lt_whole, sub_whole, same_test}
+use Rattle.std.proofs.lemmas.Bool.{lt-ltb}
+use Rattle.std.proofs.lemmas.Bool.Decides.{nat_tests}
+use Rattle.f64_helpers.proofs.WholeSeconds.{zero_whole, lt_whole, sub_whole}
 use Rattle.f64_helpers.proofs.Times.{decimal_whole, is_time_of, is_time_means}
 use Rattle.f64_helpers.proofs.Quotients.{round_zero, mul_is, mul_whole, div_exact, floor_rounded, floor_quotient, as_i64_whole}
 use Rattle.cdl_recurrences.specs.CdlRecurrences.{buildings_round_six, initial_sample_time, sample_index, sample_due}
@@ -72,7 +74,7 @@ round_six_zero_whole x v =
 -- ---- both
 round_six_is : (x : Float) (n : ℕ) → Whole x n → 0 < n → buildings_round_six x ≡ floor (x ⊗ million ⊕ decimal 5 10) ⊘ million
 unfolding buildings_round_six
-round_six_is x n v P = rw (lt_whole zeroᶠ x 0 n zero_whole v, same_test (ltb 0 n) true (λ q. tt) (λ q. lt→ltb 0 n P))
+round_six_is x n v P = rw (lt_whole zeroᶠ x 0 n zero_whole v, lt-ltb 0 n P)
 
 pub round_six_whole : (x : Float) (n : ℕ) → Whole x n → n ≤ 2147483648 → Whole (buildings_round_six x) n
 round_six_whole x n v N = go (eq-zero-or-pos n)
@@ -100,7 +102,7 @@ round_six_time x t h = go (seconds x) ((is_time_means x).0 h).0 ((is_time_means 
   where
     go : (n : ℕ) → Whole x n → n ≤ 2147483648 → (n ≡ 0) ⊎ (0 < n) → buildings_round_six x ≡ (if x >ᶠ zeroᶠ then x else fin true 0 (pos 0))
     go n v N (inl z) = rw (lt_whole zeroᶠ x 0 n zero_whole v, z, round_six_zero_whole x (subst (Whole x) z v))
-    go n v N (inr P) = rw (lt_whole zeroᶠ x 0 n zero_whole v, same_test (ltb 0 n) true (λ q. tt) (λ q. lt→ltb 0 n P), round_six_above x n v P N t)
+    go n v N (inr P) = rw (lt_whole zeroᶠ x 0 n zero_whole v, lt-ltb 0 n P, round_six_above x n v P N t)
 
 -- ---- the grid
 -- the last multiple of the period that is not after the start
@@ -147,10 +149,7 @@ periods_since n a p P A =
     omega arith
 
 less_counted : (x y a : ℕ) → a ≤ x → ltb (x - a) (y - a) ≡ ltb x y
-less_counted x y a h =
-    same_test (ltb (x - a) (y - a)) (ltb x y)
-    (λ q. lt→ltb x y (omega (arith, ltb→lt (x - a) (y - a) q)))
-    (λ q. lt→ltb (x - a) (y - a) (omega (arith, ltb→lt x y q)))
+less_counted x y a h = grind (arith, nat_tests)
 
 module _ (period : Float) (p : ℕ) (w : Whole period p) (P : 0 < p) (Q : p ≤ 2 ^ 20) (t : Float) (n : ℕ) (v : Whole t n) (N : n ≤ 2147483648) where
   grid_index : (t0 : Float) (a : ℕ) → Whole t0 (a * p) → a ≤ n / p → sample_index t t0 period ≡ pos (n / p - a)

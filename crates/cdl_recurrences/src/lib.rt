@@ -27,6 +27,7 @@ pub struct SampleDue {
     pub index: i64,
 }
 
+#[tactic(auto, unfolding(crate::specs::CdlRecurrences::buildings_line))]
 pub fn buildings_line(x1: f64, f1: f64, x2: f64, f2: f64, u: f64) -> f64
     ensures { result ≡ Cdl.buildings_line x1 f1 x2 f2 u }
 {
@@ -36,6 +37,7 @@ pub fn buildings_line(x1: f64, f1: f64, x2: f64, f2: f64, u: f64) -> f64
     intercept + slope * x_lim
 }
 
+#[tactic(auto, unfolding(crate::specs::CdlRecurrences::clamp))]
 pub fn clamp(value: f64, min: f64, max: f64) -> f64
     ensures { result ≡ Cdl.clamp value min max }
 {
@@ -48,18 +50,21 @@ pub fn clamp(value: f64, min: f64, max: f64) -> f64
     }
 }
 
+#[tactic(auto, using(crate::proofs::MemoryDecided::output_by_tests), unfolding(crate::specs::CdlRecurrences::hysteresis))]
 pub fn hysteresis(u: f64, u_low: f64, u_high: f64, previous: bool) -> DeadBandOutput
     ensures { result ≡ Cdl.dead_band_output (Cdl.hysteresis u u_low u_high) previous }
 {
     dead_band_by_tests(previous, u > u_high, u >= u_low)
 }
 
+#[tactic(auto, using(crate::proofs::MemoryDecided::output_by_tests), unfolding(crate::specs::CdlRecurrences::less_hysteretic))]
 pub fn less_hysteretic(u1: f64, u2: f64, h: f64, previous: bool) -> DeadBandOutput
     ensures { result ≡ Cdl.dead_band_output (Cdl.less_hysteretic u1 u2 h) previous }
 {
     dead_band_by_tests(previous, u1 < u2, u1 < u2 + h)
 }
 
+#[tactic(auto, using(crate::proofs::MemoryDecided::output_by_tests), unfolding(crate::specs::CdlRecurrences::greater_hysteretic))]
 pub fn greater_hysteretic(u1: f64, u2: f64, h: f64, previous: bool) -> DeadBandOutput
     ensures { result ≡ Cdl.dead_band_output (Cdl.greater_hysteretic u1 u2 h) previous }
 {
@@ -76,6 +81,7 @@ fn dead_band_by_tests(previous: bool, turns_on: bool, stays_on: bool) -> DeadBan
     }
 }
 
+#[tactic(auto, unfolding(crate::specs::CdlRecurrences::true_delay_output, crate::specs::CdlPieces::true_delay_running))]
 pub fn true_delay_output(
     t: f64,
     u: bool,
@@ -117,6 +123,7 @@ pub fn true_delay_output(
 }
 
 // The delay with its input true, at a tick that is not the first.
+#[tactic(auto, unfolding(crate::specs::CdlPieces::true_delay_running))]
 fn true_delay_running(
     t: f64,
     delay: f64,
@@ -147,6 +154,7 @@ fn true_delay_running(
 }
 
 // No caller: `SamplerState::sample` asks `sample_due` once, for what it gives and for what it stores.
+#[tactic(auto, using(f64_helpers::proofs::Integers::i64_kept), unfolding(crate::specs::CdlRecurrences::sampler_output))]
 pub fn sampler_output(
     t: f64,
     input: f64,
@@ -169,6 +177,7 @@ pub fn sampler_output(
     }
 }
 
+#[tactic(auto, unfolding(crate::specs::CdlRecurrences::initial_sample_time))]
 pub fn initial_sample_time(t_start: f64, period: f64) -> f64
     ensures { result ≡ Cdl.initial_sample_time t_start period }
 {
@@ -198,12 +207,14 @@ fn round_six_by_division(x: f64) -> f64
     }
 }
 
+#[tactic(auto, using(f64_helpers::proofs::Integers::i64_kept), unfolding(crate::specs::CdlRecurrences::sample_index))]
 pub fn sample_index(t_now: f64, t0: f64, period: f64) -> i64
     ensures { result ≡ Cdl.sample_index t_now t0 period }
 {
     f64_helpers::floor_as_i64((t_now - t0) / period)
 }
 
+#[tactic(auto, using(f64_helpers::proofs::Integers::i64_kept), unfolding(crate::specs::CdlRecurrences::sample_due))]
 pub fn sample_due(t_now: f64, t0: f64, period: f64, last_index: i64) -> SampleDue
     ensures { result ≡ Cdl.sample_due t_now t0 period last_index }
 {

@@ -1,8 +1,9 @@
 -- What the casts to an integer ask and give: the whole part of a number above 0 and below 2 ^ 52, and the ends of i64's range. Assumes nothing.
-use Rattle.std.proofs.Common.{◌≡◌, ℕ, ◌+◌, ◌*◌, ◌/◌, ◌<◌, ◌≤◌, min, Bool, true, false, not, ◌||◌, T, ltb, ℤ, pos, neg_ℤ, sym, refl, ap, subst, zero-lt-suc, div-lt_iff_lt-mul, mul-pos, le-div_iff_mul-le, mul-one, arith, ltb→lt, lt→ltb, nltb→le}
+use Rattle.std.proofs.Common.{◌≡◌, ℕ, ◌+◌, ◌*◌, ◌/◌, ◌<◌, ◌≤◌, min, Bool, true, false, not, ◌||◌, T, ltb, ℤ, pos, neg_ℤ, sym, refl, ap, subst, zero-lt-suc, div-lt_iff_lt-mul, mul-pos, le-div_iff_mul-le, mul-one, arith, ltb→lt, nltb→le}
 use lib.Ieee.{Float, nan, inf, fin, up, down, lt, eq, le, ne, to_unsigned, to_signed}
 use lib.Ieee.Fits.{down_pos}
 use lib.Ieee.Compare.{differs_from_itself}
+use Rattle.std.proofs.lemmas.Float.{lt_trans}
 use Rattle.f64_helpers.specs.F64.{zero as zeroᶠ}
 
 -- ---- the whole part, below 2 ^ 52
@@ -34,27 +35,10 @@ count_small (fin false m e) p h = subst (λ (z : ℕ). z < 4503599627370496) (sy
 
 -- ---- what a call of a `truncating_` function asks
 pub above_minus_one : (x : Float) → T (lt zeroᶠ x) → T (lt (fin true 1 (pos 0)) x)
-unfolding lt
-above_minus_one nan p = p
-above_minus_one (inf s) p = p
-above_minus_one (fin true m e) p = absurd p
-above_minus_one (fin false m e) p = lt→ltb 0 (1 * 1 * down e + m * up e * 1) (some (down e) (m * up e * 1) (down_pos e))
-  where
-    some : (a b : ℕ) → 0 < a → 0 < 1 * 1 * a + b
-    some a b h = omega arith
+above_minus_one x p = lt_trans (fin true 1 (pos 0)) zeroᶠ x (unfold lt in tt) p
 
 pub below_2_64 : (x : Float) → T (lt x (fin false 1 (pos 52))) → T (lt x (fin false 1 (pos 64)))
-unfolding lt
-below_2_64 nan p = p
-below_2_64 (inf s) p = p
-below_2_64 (fin true m e) p = lt→ltb 0 (m * up e * 1 + 18446744073709551616 * down e) (some (m * up e * 1) (down e) (down_pos e))
-  where
-    some : (a b : ℕ) → 0 < b → 0 < a + 18446744073709551616 * b
-    some a b h = omega arith
-below_2_64 (fin false m e) p = lt→ltb (m * up e * 1) (18446744073709551616 * down e) (more (m * up e * 1) (down e) (ltb→lt (m * up e * 1) (4503599627370496 * down e) p))
-  where
-    more : (a b : ℕ) → a < 4503599627370496 * b → a < 18446744073709551616 * b
-    more a b h = omega arith
+below_2_64 x p = lt_trans x (fin false 1 (pos 52)) (fin false 1 (pos 64)) p (unfold lt in tt)
 
 -- ---- the ends of i64's range
 quotient_large : (m : ℕ) (e : ℤ) → 9223372036854775808 * down e ≤ m * up e * 1 → 9223372036854775808 ≤ m * up e / down e

@@ -1,8 +1,10 @@
 -- The other sign: rounding keeps its size, floor and ceiling change places, and what is below 0 comes above it. Assumes nothing.
-use Rattle.std.proofs.Common.{◌≡◌, ℕ, zero, suc, ◌+◌, ◌-◌, ◌*◌, ◌/◌, ◌%◌, ◌^◌, ◌<◌, Bool, true, false, cond, not, T, ltb, refl, ap, arith, ltb→lt, lt→ltb}
+use Rattle.std.proofs.Common.{◌≡◌, ℕ, zero, suc, ◌+◌, ◌-◌, ◌*◌, ◌/◌, ◌%◌, ◌^◌, Bool, true, false, cond, not, T, ltb, sym, refl, ap, subst}
 use Prim.Native.Nat.{compare}
 use mathlib.Core.Bool.{not-not}
-use lib.Ieee.{Float, nan, inf, fin, Format, binary64, prec, emax, low, up, down, nearest, odd, units, round, neg, lt, size}
+use lib.Ieee.{Float, nan, inf, fin, Format, binary64, prec, emax, low, up, down, nearest, odd, units, round, neg, lt, eq, le, size}
+use Rattle.std.proofs.lemmas.Float.{lt_of_le_of_lt}
+use Rattle.f64_helpers.proofs.Signs.{lt_turned}
 use Rattle.f64_helpers.specs.F64.{zero as zeroᶠ}
 use Rattle.f64_helpers.specs.Helpers.{floor, ceil, quotient_down, quotient_up}
 
@@ -45,15 +47,5 @@ neg_ceil (fin true m e) = neg_round binary64 false (quotient_up (m * up e) (down
 
 -- ---- about zero
 pub neg_above : (x : Float) → T (lt x zeroᶠ) → T (lt zeroᶠ (neg x))
-unfolding lt neg
-neg_above nan p = p
-neg_above (inf true) p = tt
-neg_above (inf false) p = absurd p
-neg_above (fin true m e) p = lt→ltb (0 * 1 * down e) (m * up e * 1) (turn (m * up e * 1) (down e) (ltb→lt 0 (m * up e * 1 + 0 * 1 * down e) p))
-  where
-    turn : (a b : ℕ) → 0 < a + 0 * 1 * b → 0 * 1 * b < a
-    turn a b h = omega arith
-neg_above (fin false m e) p = absurd (none (m * up e * 1) (down e) (ltb→lt (m * up e * 1) (0 * 1 * down e) p))
-  where
-    none : (a b : ℕ) → a < 0 * 1 * b → ⊥
-    none a b h = omega arith
+unfolding neg
+neg_above x p = lt_of_le_of_lt zeroᶠ (neg zeroᶠ) (neg x) (unfold le lt eq in tt) (subst T (sym (lt_turned zeroᶠ x)) p)

@@ -1,6 +1,6 @@
 -- Products and quotients of whole numbers: a product and a quotient without remainder are exact, and a quotient that is rounded and then cut down is the whole quotient. Assumes nothing.
 use Rattle.std.proofs.Common.{◌≡◌, ℕ, zero, suc, ◌+◌, ◌-◌, ◌*◌, ◌/◌, ◌^◌, ◌<◌, ◌≤◌, min, Bool, true, false, not, T, ℤ, pos, sym, refl, ap, ◌∙◌, subst, ap₂, true≢false, le_trans, le_of_eq, lt_of_lt_of_le, lt_of_le_of_lt, mul-le-mul_right, zero-lt-suc, mul_assoc, suc-mul, mul_comm, add-mul, lt_of_mul-lt-mul_right, mul-le-mul_left, mul-lt-mul_of_pos_right, mul-pos, one-mul, mul-zero, zero-mul, mul-one, div-le_self, mul_right_comm, div-mul-le_self, le_of_mul-le-mul_right, mul_left_comm, arith, lit≤, pow_pos, pow_mono, pow-add}
-use native.Mathlib.Nat.{mul-mul-mul_comm, eq_of_mul-eq-mul_right, zero-div, div-eq_of_lt-le, lt-div-mul-add}
+use native.Mathlib.Nat.{sub-add_cancel, mul-mul-mul_comm, eq_of_mul-eq-mul_right, zero-div, div-eq_of_lt-le, lt-div-mul-add}
 use lib.Dec.{eqb-suc-zero}
 use lib.Ieee.{Float, nan, inf, fin, Format, binary64, prec, emax, low, unlike, up, down, round, mul, div, lt, eq, le, to_signed}
 use lib.Ieee.Fits.{down_pos, reach}
@@ -89,10 +89,7 @@ round_fraction f w k j W h =
     part l j k h = omega arith
 
 pub fraction_held : (w k : ℕ) → w < 2 ^ 53 → k ≤ low binary64 → Held w (2 ^ k)
-fraction_held w k W K = round_fraction binary64 w k (low binary64 - k) W (rest (low binary64) k K)
-  where
-    rest : (l k : ℕ) → k ≤ l → l ≡ l - k + k
-    rest l k h = omega arith
+fraction_held w k W K = round_fraction binary64 w k (low binary64 - k) W (sym (sub-add_cancel K))
 
 pub whole_held : (n : ℕ) → n ≤ 2 ^ 53 → Held n 1
 whole_held n N = round_whole binary64 false n N

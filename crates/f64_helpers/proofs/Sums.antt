@@ -1,15 +1,16 @@
 -- Rounding keeps the order of fractions of either sign, so that a sum does not come to lie on the wrong side of its first term. Assumes nothing.
-use Rattle.std.proofs.Common.{◌≡◌, ℕ, zero, suc, ◌+◌, ◌-◌, ◌*◌, ◌%◌, ◌^◌, ◌<◌, ◌≤◌, Bool, true, false, cond, not, ◌&&◌, ◌||◌, T, eqb, ltb, leb, ◌⊎◌, ℤ, pos, negsuc, sym, refl, ap, ◌∙◌, subst, inl, inr, ⊎_elim, le_of_suc-le-suc, mul-le-mul_right, zero-lt-suc, mul_assoc, mul_comm, add-mul, add_comm, lt_of_mul-lt-mul_right, mul-lt-mul_of_pos_right, mul-pos, one-mul, lt_of_not-le, zero-mul, mul-one, mul_right_comm, not-le_of_lt, arith, ltb→lt, leb→le, nltb→le, pow_pos, pow-add}
+use Rattle.std.proofs.Common.{◌≡◌, ℕ, zero, suc, ◌+◌, ◌-◌, ◌*◌, ◌<◌, ◌≤◌, Bool, true, false, cond, not, ◌&&◌, ◌||◌, T, eqb, ltb, ◌⊎◌, ℤ, pos, sym, refl, ap, ◌∙◌, subst, inl, inr, ⊎_elim, mul-le-mul_right, zero-lt-suc, mul_assoc, mul_comm, add-mul, mul-pos, arith, ltb→lt, nltb→le}
 use mathlib.Core.Bool.{beq, not-not}
 use lib.Dec.{eqb_refl}
-use lib.Pow.{pow-lt}
-use lib.Ieee.{Float, nan, inf, fin, Format, binary64, prec, emax, low, up, down, round, level, neg, sum, add, sub, lt, eq, le, is_nan, fits}
-use lib.Ieee.Fits.{and_i, and_l, and_r, down_pos}
-use lib.Ieee.Exact.{HasValue, round_exact}
-use lib.Ieee.Scale.{round_same}
+use lib.Ieee.{Float, nan, inf, fin, binary64, up, down, round, level, neg, sum, add, sub, lt, eq, le, is_nan, fits}
+use lib.Ieee.Fits.{and_i, down_pos}
+use lib.Ieee.Exact.{HasValue}
 use lib.Ieee.Order.{round_mono}
 use Rattle.f64_helpers.specs.F64.{zero as zeroᶠ}
-use Rattle.f64_helpers.proofs.Order.{plus, plus_mul, fractions, le_numbers, le_trans, lt_is_not_le, eq→le, not_both, le_lt, lt_le, number_below}
+use Rattle.f64_helpers.proofs.Order.{plus, plus_mul, fractions, le_numbers, lt_is_not_le, not_both, number_below}
+use Rattle.f64_helpers.proofs.Quotients.{round_zero}
+use Rattle.f64_helpers.proofs.Values.{own_value}
+use Rattle.std.proofs.lemmas.Float.{le_of_eq, le_trans, lt_of_le_of_lt, lt_of_lt_of_le}
 use Rattle.f64_helpers.proofs.Negation.{neg_round}
 use Rattle.f64_helpers.proofs.Signs.{nan_turned, lt_turned}
 
@@ -30,10 +31,6 @@ le_turned x y h =
 abbrev pub AtMost : Bool → ℕ → ℕ → Bool → ℕ → ℕ → Type 0
 AtMost s a c t b d = plus s a * d + plus (not t) b * c ≤ plus t b * c + plus (not s) a * d
 
-round_none : (s : Bool) (c : ℕ) → 0 < c → round binary64 s 0 c ≡ fin s 0 (pos 0)
-unfolding round
-round_none s c C = round_same binary64 s 0 c 0 1 C (zero-lt-suc 0) (zero-mul 1 ∙ sym (zero-mul c)) ∙ refl
-
 zeros_level : (s t : Bool) → T (le (fin s 0 (pos 0)) (fin t 0 (pos 0)))
 unfolding le
 zeros_level true true = tt
@@ -43,7 +40,7 @@ zeros_level false false = tt
 
 not_negative : (b d : ℕ) → 0 < d → T (le zeroᶠ (round binary64 false b d))
 not_negative b d D =
-    subst (λ (z : Float). T (le z (round binary64 false b d))) (round_none false 1 (zero-lt-suc 0)) (round_mono binary64 0 1 b d (zero-lt-suc 0) D (omega arith))
+    subst (λ (z : Float). T (le z (round binary64 false b d))) (round_zero false 1 (zero-lt-suc 0)) (round_mono binary64 0 1 b d (zero-lt-suc 0) D (omega arith))
 
 not_positive : (a c : ℕ) → 0 < c → T (le (round binary64 true a c) zeroᶠ)
 unfolding neg
@@ -71,52 +68,11 @@ rounded_in_order true true a b c d C D h =
 rounded_in_order true false a b c d C D h = le_trans (round binary64 true a c) zeroᶠ (round binary64 false b d) (not_positive a c C) (not_negative b d D)
 rounded_in_order false true a b c d C D h =
     let z = no_size a b c d C D h in
-    let l : fin false 0 (pos 0) ≡ round binary64 false a c = sym (ap (λ (n : ℕ). round binary64 false n c) z.0 ∙ round_none false c C) in
-    let r : fin true 0 (pos 0) ≡ round binary64 true b d = sym (ap (λ (n : ℕ). round binary64 true n d) z.1 ∙ round_none true d D) in
+    let l : fin false 0 (pos 0) ≡ round binary64 false a c = sym (ap (λ (n : ℕ). round binary64 false n c) z.0 ∙ round_zero false c C) in
+    let r : fin true 0 (pos 0) ≡ round binary64 true b d = sym (ap (λ (n : ℕ). round binary64 true n d) z.1 ∙ round_zero true d D) in
     subst T (λ i. le (l i) (r i)) (zeros_level false true)
 
 -- ---- a value that the format holds, and the fraction that it is
-pow_back : (a b : ℕ) → 2 ^ a ≤ 2 ^ b → a ≤ b
-pow_back a b h = le_of_suc-le-suc (lt_of_not-le (λ (g : suc b ≤ a). not-le_of_lt (pow-lt g) h))
-
-record Places (f : Format) (e : ℤ) : Type 0 where
-  pub places : ℕ
-  pub in_units : up e * 2 ^ low f ≡ 2 ^ places * down e
-
-places_of : (f : Format) (e : ℤ) → down e ≤ 2 ^ low f → Places f e
-places_of f (pos k) h = record { places = k + low f; in_units = sym (pow-add 2 k (low f)) ∙ sym (mul-one (2 ^ (k + low f))) }
-places_of f (negsuc k) h = record {
-  places = low f - suc k;
-  in_units = one-mul (2 ^ low f) ∙ ap (λ (n : ℕ). 2 ^ n) (back (low f) (suc k) (pow_back (suc k) (low f) h)) ∙ pow-add 2 (low f - suc k) (suc k);
-}
-  where
-    back : (j k : ℕ) → k ≤ j → j ≡ j - k + k
-    back j k h = omega arith
-
-below_top : (m u l d j top : ℕ) → 0 < l → u * l ≡ j * d → m * u < top * d → m * j < top * l
-below_top m u l d j top L e h =
-    let left : m * u * l ≡ m * j * d = mul_assoc m u l ∙ ap (λ (n : ℕ). m * n) e ∙ sym (mul_assoc m j d) in
-    lt_of_mul-lt-mul_right d (subst (λ (n : ℕ). n < top * l * d) left (subst (λ (n : ℕ). m * u * l < n) (mul_right_comm top d l) (mul-lt-mul_of_pos_right h L)))
-
-own_value : (f : Format) (s : Bool) (m : ℕ) (e : ℤ) → T (fits f (fin s m e)) → HasValue (round f s (m * up e) (down e)) s (m * up e) (down e)
-unfolding fits
-own_value f s zero e t =
-    round_exact f s (0 * up e) (down e) 0 0 (down_pos e) (pow_pos (prec f)) (pow_pos (low f + suc (emax f))) (nothing (up e) (2 ^ low f) (down e))
-  where
-    nothing : (u l d : ℕ) → 0 * u * l ≡ 0 * d
-    nothing u l d = ap (λ (n : ℕ). n * l) (zero-mul u) ∙ zero-mul l ∙ sym (zero-mul d)
-own_value f s (suc m) e t =
-    let odd_bit : Bool = eqb (suc m % 2) 1 in
-    let short : Bool = ltb (suc m) (2 ^ prec f) in
-    let not_fine : Bool = leb (down e) (2 ^ low f) in
-    let not_large : Bool = ltb (suc m * up e) (2 ^ suc (emax f) * down e) in
-    let p = places_of f e (leb→le (down e) (2 ^ low f) (and_r (odd_bit && short) not_fine (and_l (odd_bit && short && not_fine) not_large t))) in
-    round_exact f s (suc m * up e) (down e) (suc m) p.places (down_pos e)
-    (ltb→lt (suc m) (2 ^ prec f) (and_r odd_bit short (and_l (odd_bit && short) not_fine (and_l (odd_bit && short && not_fine) not_large t))))
-    (subst (λ (n : ℕ). suc m * 2 ^ p.places < n) (sym (pow-add 2 (suc (emax f)) (low f)) ∙ ap (λ (n : ℕ). 2 ^ n) (add_comm (suc (emax f)) (low f)))
-    (below_top (suc m) (up e) (2 ^ low f) (down e) (2 ^ p.places) (2 ^ suc (emax f)) (pow_pos (low f)) p.in_units (ltb→lt (suc m * up e) (2 ^ suc (emax f) * down e) (and_r (odd_bit && short && not_fine) not_large t))))
-    (mul_assoc (suc m) (up e) (2 ^ low f) ∙ ap (λ (n : ℕ). suc m * n) p.in_units ∙ sym (mul_assoc (suc m) (2 ^ p.places) (down e)))
-
 level_of : (s t : Bool) (a b : ℕ) → t ≡ s → b ≡ a → T (level s a t b)
 level_of s t a b p q = subst (λ (t : Bool). T (level s a t b)) (sym p) (subst (λ (b : ℕ). T (level s a s b)) (sym q) (and_i (eqb a a) (beq s s || eqb a 0) (eqb_refl a) (itself s)))
   where
@@ -209,7 +165,7 @@ module _ (s : Bool) (m : ℕ) (e : ℤ) (held : T (fits binary64 (fin s m e))) w
   finite_above : (t : Bool) (n : ℕ) (d : ℤ) → T (le zeroᶠ (fin t n d)) → T (le (fin s m e) (add binary64 (fin s m e) (fin t n d)))
   unfolding add
   finite_above t n d h =
-      le_trans (fin s m e) itself (add binary64 (fin s m e) (fin t n d)) (eq→le (fin s m e) itself as_itself.0)
+      le_trans (fin s m e) itself (add binary64 (fin s m e) (fin t n d)) (le_of_eq (fin s m e) itself as_itself.0)
       (sum_above s (m * up e) (down e) t (n * up d) (down d) (down_pos e) (down_pos d) (at_least_zero t n d h))
 
   finite_below : (t : Bool) (n : ℕ) (d : ℤ) → T (le (fin t n d) zeroᶠ) → T (le (add binary64 (fin s m e) (fin t n d)) (fin s m e))
@@ -217,7 +173,7 @@ module _ (s : Bool) (m : ℕ) (e : ℤ) (held : T (fits binary64 (fin s m e))) w
   finite_below t n d h =
       le_trans (add binary64 (fin s m e) (fin t n d)) itself (fin s m e)
       (sum_below s (m * up e) (down e) t (n * up d) (down d) (down_pos e) (down_pos d) (at_most_zero t n d h))
-      (eq→le itself (fin s m e) as_itself.1)
+      (le_of_eq itself (fin s m e) as_itself.1)
 
 -- no number lies below x, none above it
 abbrev Lowest : Float → Type 0
@@ -303,16 +259,16 @@ not_negative_turned h p = le_trans zeroᶠ (neg zeroᶠ) (neg h) (zeros_level fa
 
 module _ (u x h : Float) (held : T (fits binary64 x)) where
   pub below_raised : T (le zeroᶠ h) → T (lt u x) → T (lt u (add binary64 x h))
-  below_raised p q = ⊎_elim (λ l. lt_le u x (add binary64 x h) q l) (λ n. absurd (n.1 u q)) (raised x h held p)
+  below_raised p q = ⊎_elim (λ l. lt_of_lt_of_le u x (add binary64 x h) q l) (λ n. absurd (n.1 u q)) (raised x h held p)
 
   pub below_lowered : T (le h zeroᶠ) → T (lt u (add binary64 x h)) → T (lt u x)
-  below_lowered p q = ⊎_elim (λ l. lt_le u (add binary64 x h) x q l) (λ n. absurd (number_below u (add binary64 x h) (inr n.0) q)) (lowered x h held p)
+  below_lowered p q = ⊎_elim (λ l. lt_of_lt_of_le u (add binary64 x h) x q l) (λ n. absurd (number_below u (add binary64 x h) (inr n.0) q)) (lowered x h held p)
 
   pub above_lowered : T (le zeroᶠ h) → T (lt x u) → T (lt (sub binary64 x h) u)
   unfolding sub
-  above_lowered p q = ⊎_elim (λ l. le_lt (sub binary64 x h) x u l q) (λ n. absurd (n.1 u q)) (lowered x (neg h) held (not_positive_turned h p))
+  above_lowered p q = ⊎_elim (λ l. lt_of_le_of_lt (sub binary64 x h) x u l q) (λ n. absurd (n.1 u q)) (lowered x (neg h) held (not_positive_turned h p))
 
   pub above_raised : T (le h zeroᶠ) → T (lt (sub binary64 x h) u) → T (lt x u)
   unfolding sub
   above_raised p q =
-      ⊎_elim (λ l. le_lt x (sub binary64 x h) u l q) (λ n. absurd (number_below (sub binary64 x h) u (inl n.0) q)) (raised x (neg h) held (not_negative_turned h p))
+      ⊎_elim (λ l. lt_of_le_of_lt x (sub binary64 x h) u l q) (λ n. absurd (number_below (sub binary64 x h) u (inl n.0) q)) (raised x (neg h) held (not_negative_turned h p))

@@ -1,17 +1,18 @@
 -- What a test of the code tells: its answer as a fact, a flag beside one that is false, and `x != x` as the test for a NaN. Assumes nothing.
-use Rattle.std.proofs.Common.{◌≡◌, ◌*◌, Bool, true, false, not, ◌&&◌, T, eqb, sym, refl, ◌∙◌, subst}
+use Rattle.std.proofs.Common.{◌≡◌, ◌*◌, Bool, true, false, not, ◌&&◌, T, eqb, sym, refl, ◌∙◌}
+use mathlib.Core.Bool.{and-false}
 use lib.Dec.{eqb_refl}
+use Rattle.std.proofs.lemmas.Float.{T_from_true, T_from_false}
 use lib.Ieee.{Float, nan, inf, fin, up, down, ne, is_nan}
 
 pub yes : {b : Bool} → b ≡ true → T b
-yes h = subst T (sym h) tt
+yes h = T_from_true _ h
 
 pub no : {b : Bool} → b ≡ false → T (not b)
-no h = subst (λ (b : Bool). T (not b)) (sym h) tt
+no h = T_from_false _ h
 
 pub and_false : (b : Bool) → (b && false) ≡ false
-and_false true = refl
-and_false false = refl
+and_false = and-false
 
 -- what differs from itself is a NaN
 pub nan_test : (x : Float) → ne x x ≡ is_nan x

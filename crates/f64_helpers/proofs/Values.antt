@@ -1,38 +1,57 @@
 -- Which values an f64 holds: a whole number with no negative exponent is the rounded form of itself, a fraction has at most 53 bits, and only the two zeros have the size 0. Assumes nothing.
-use Rattle.std.proofs.Common.{◌≡◌, ℕ, zero, suc, ◌+◌, ◌*◌, ◌%◌, ◌^◌, ◌<◌, ◌≤◌, Bool, true, false, not, ◌&&◌, ◌||◌, T, eqb, ltb, leb, ℤ, pos, negsuc, sym, refl, ap, ◌∙◌, subst, zero-lt-suc, mul_assoc, mul_comm, mul-lt-mul_of_pos_right, mul-pos, one-mul, zero-mul, mul-one, arith, eqb→eq, ltb→lt, nltb→le, pow_pos, pow-add}
-use native.Mathlib.Nat.{pow-succ'}
+use Rattle.std.proofs.Common.{◌≡◌, ◌-◌, le_of_suc-le-suc, lt_of_mul-lt-mul_right, lt_of_not-le, not-le_of_lt, add_comm, leb→le, mul_right_comm, ℕ, zero, suc, ◌+◌, ◌*◌, ◌%◌, ◌^◌, ◌<◌, ◌≤◌, Bool, true, false, not, ◌&&◌, ◌||◌, T, eqb, ltb, leb, ℤ, pos, negsuc, sym, refl, ap, ◌∙◌, subst, zero-lt-suc, mul_assoc, mul-lt-mul_of_pos_right, mul-pos, one-mul, zero-mul, mul-one, arith, eqb→eq, ltb→lt, nltb→le, pow_pos, pow-add}
+use native.Mathlib.Nat.{pow-succ', sub-add_cancel}
 use mathlib.Core.Bool.{beq}
 use lib.Ieee.{Float, nan, inf, fin, Format, binary64, prec, emax, low, up, down, round, lt, eq, fits}
-use lib.Ieee.Fits.{and_l, and_r, round-fits, up_pos}
-use lib.Ieee.Exact.{round_exact}
+use lib.Ieee.Fits.{down_pos, and_l, and_r, round-fits, up_pos}
+use lib.Ieee.Exact.{HasValue, round_exact}
+use lib.Pow.{pow-lt}
 use lib.Ieee.Back.{whole_unique}
 use Rattle.f64_helpers.specs.F64.{zero as zeroᶠ}
 use Rattle.f64_helpers.specs.Helpers.{negative}
 
--- ---- a value with no negative exponent is the rounded form of its own whole number
-pub fits_bounds : (f : Format) (s : Bool) (m k : ℕ) → T (fits f (fin s m (pos k))) → (m < 2 ^ prec f) × (m * 2 ^ k < 2 ^ suc (emax f))
-unfolding fits
-fits_bounds f s zero k t = (pow_pos (prec f), subst (λ (z : ℕ). z < 2 ^ suc (emax f)) (sym (zero-mul (2 ^ k))) (pow_pos (suc (emax f))))
-fits_bounds f s (suc m) k t =
-    let a : Bool = eqb (suc m % 2) 1 in
-    let b : Bool = ltb (suc m) (2 ^ prec f) in
-    let c : Bool = leb 1 (2 ^ low f) in
-    let d : Bool = ltb (suc m * 2 ^ k) (2 ^ suc (emax f) * 1) in (
-      ltb→lt (suc m) (2 ^ prec f) (and_r a b (and_l (a && b) c (and_l (a && b && c) d t))),
-      subst (λ (z : ℕ). suc m * 2 ^ k < z) (mul-one (2 ^ suc (emax f))) (ltb→lt (suc m * 2 ^ k) (2 ^ suc (emax f) * 1) (and_r (a && b && c) d t)),
-    )
+-- ---- a value that the format holds, and the fraction that it is
+pow_back : (a b : ℕ) → 2 ^ a ≤ 2 ^ b → a ≤ b
+pow_back a b h = le_of_suc-le-suc (lt_of_not-le (λ (g : suc b ≤ a). not-le_of_lt (pow-lt g) h))
 
+record Places (f : Format) (e : ℤ) : Type 0 where
+  pub places : ℕ
+  pub in_units : up e * 2 ^ low f ≡ 2 ^ places * down e
+
+places_of : (f : Format) (e : ℤ) → down e ≤ 2 ^ low f → Places f e
+places_of f (pos k) h = record { places = k + low f; in_units = sym (pow-add 2 k (low f)) ∙ sym (mul-one (2 ^ (k + low f))) }
+places_of f (negsuc k) h = record {
+  places = low f - suc k;
+  in_units = one-mul (2 ^ low f) ∙ ap (λ (n : ℕ). 2 ^ n) (sym (sub-add_cancel (pow_back (suc k) (low f) h))) ∙ pow-add 2 (low f - suc k) (suc k);
+}
+
+below_top : (m u l d j top : ℕ) → 0 < l → u * l ≡ j * d → m * u < top * d → m * j < top * l
+below_top m u l d j top L e h =
+    let left : m * u * l ≡ m * j * d = mul_assoc m u l ∙ ap (λ (n : ℕ). m * n) e ∙ sym (mul_assoc m j d) in
+    lt_of_mul-lt-mul_right d (subst (λ (n : ℕ). n < top * l * d) left (subst (λ (n : ℕ). m * u * l < n) (mul_right_comm top d l) (mul-lt-mul_of_pos_right h L)))
+
+pub own_value : (f : Format) (s : Bool) (m : ℕ) (e : ℤ) → T (fits f (fin s m e)) → HasValue (round f s (m * up e) (down e)) s (m * up e) (down e)
+unfolding fits
+own_value f s zero e t =
+    round_exact f s (0 * up e) (down e) 0 0 (down_pos e) (pow_pos (prec f)) (pow_pos (low f + suc (emax f))) (nothing (up e) (2 ^ low f) (down e))
+  where
+    nothing : (u l d : ℕ) → 0 * u * l ≡ 0 * d
+    nothing u l d = ap (λ (n : ℕ). n * l) (zero-mul u) ∙ zero-mul l ∙ sym (zero-mul d)
+own_value f s (suc m) e t =
+    let odd_bit : Bool = eqb (suc m % 2) 1 in
+    let short : Bool = ltb (suc m) (2 ^ prec f) in
+    let not_fine : Bool = leb (down e) (2 ^ low f) in
+    let not_large : Bool = ltb (suc m * up e) (2 ^ suc (emax f) * down e) in
+    let p = places_of f e (leb→le (down e) (2 ^ low f) (and_r (odd_bit && short) not_fine (and_l (odd_bit && short && not_fine) not_large t))) in
+    round_exact f s (suc m * up e) (down e) (suc m) p.places (down_pos e)
+    (ltb→lt (suc m) (2 ^ prec f) (and_r odd_bit short (and_l (odd_bit && short) not_fine (and_l (odd_bit && short && not_fine) not_large t))))
+    (subst (λ (n : ℕ). suc m * 2 ^ p.places < n) (sym (pow-add 2 (suc (emax f)) (low f)) ∙ ap (λ (n : ℕ). 2 ^ n) (add_comm (suc (emax f)) (low f)))
+    (below_top (suc m) (up e) (2 ^ low f) (down e) (2 ^ p.places) (2 ^ suc (emax f)) (pow_pos (low f)) p.in_units (ltb→lt (suc m * up e) (2 ^ suc (emax f) * down e) (and_r (odd_bit && short && not_fine) not_large t))))
+    (mul_assoc (suc m) (up e) (2 ^ low f) ∙ ap (λ (n : ℕ). suc m * n) p.in_units ∙ sym (mul_assoc (suc m) (2 ^ p.places) (down e)))
+
+-- ---- a value with no negative exponent is the rounded form of its own whole number
 pub exact : (f : Format) (s : Bool) (m k : ℕ) → T (fits f (fin s m (pos k))) → round f s (m * 2 ^ k) 1 ≡ fin s m (pos k)
-exact f s m k t =
-    let b = fits_bounds f s m k t in
-    let l = low f in
-    let x : m * 2 ^ (k + l) ≡ m * 2 ^ k * 2 ^ l = ap (λ (z : ℕ). m * z) (pow-add 2 k l) ∙ sym (mul_assoc m (2 ^ k) (2 ^ l)) in
-    let y : 2 ^ suc (emax f) * 2 ^ l ≡ 2 ^ (l + suc (emax f)) = mul_comm (2 ^ suc (emax f)) (2 ^ l) ∙ sym (pow-add 2 l (suc (emax f))) in
-    whole_unique f (round f s (m * 2 ^ k) 1) (fin s m (pos k)) s (m * 2 ^ k) (round-fits f s (m * 2 ^ k) 1) t
-    (round_exact f s (m * 2 ^ k) 1 m (k + l) (zero-lt-suc 0) b.0
-    (subst (λ (z : ℕ). z < 2 ^ (l + suc (emax f))) (sym x) (subst (λ (z : ℕ). m * 2 ^ k * 2 ^ l < z) y (mul-lt-mul_of_pos_right b.1 (pow_pos l))))
-    (sym x ∙ sym (mul-one (m * 2 ^ (k + l)))))
-    (refl, refl)
+exact f s m k t = whole_unique f (round f s (m * 2 ^ k) 1) (fin s m (pos k)) s (m * 2 ^ k) (round-fits f s (m * 2 ^ k) 1) t (own_value f s m (pos k) t) (refl, refl)
 
 -- ---- a value with a negative exponent has at most 53 bits
 pub fits_frac : (s : Bool) (m k : ℕ) → T (fits binary64 (fin s m (negsuc k))) → m < 2 ^ 53

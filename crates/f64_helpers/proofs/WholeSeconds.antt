@@ -1,6 +1,7 @@
 -- f64 arithmetic on whole numbers is exact: on floats that stand for whole numbers of 0 or more, `add`, `sub`, `lt`, `eq`, `le` and `max` are those of the numbers. Assumes nothing.
 use Rattle.std.proofs.Common.{◌≡◌, ℕ, suc, ◌+◌, ◌-◌, ◌*◌, ◌/◌, ◌^◌, ◌<◌, ◌≤◌, max as maxℕ, Bool, true, false, cond, not, ◌&&◌, ◌||◌, T, eqb, ltb, leb, ◌↔◌, ℤ, pos, sym, refl, ap, ◌∙◌, subst, le_of_lt, mul-le-mul_right, zero-lt-suc, mul_assoc, suc-mul, mul_comm, div-lt_iff_lt-mul, add-mul, lt_of_mul-lt-mul_right, mul-lt-mul_of_pos_right, mul-pos, zero-mul, mul-one, mul_right_comm, le_of_mul-le-mul_right, mul-div_cancel, arith, le→leb, eqb→eq, ltb→lt, lt→ltb, leb→le, nltb→le}
-use native.Mathlib.Nat.{eq_of_mul-eq-mul_right, max-eq_left, max-eq_right}
+use Rattle.std.proofs.lemmas.Bool.Decides.{nat_tests}
+use native.Mathlib.Nat.{sub-add_cancel, eq_of_mul-eq-mul_right, max-eq_left, max-eq_right}
 use mathlib.Core.Bool.{beq}
 use lib.Ieee.{Float, nan, inf, fin, Format, prec, up, down, round, sum, add, sub, below, level, lt, eq, le, is_nan}
 use lib.Ieee.Fits.{down_pos, eq→eqb, and_i, and_l}
@@ -55,10 +56,7 @@ sum_whole f true false a b c C N y z =
     (λ h. (omega (arith, none a c (y tt), add-mul a b c), λ q. omega (arith, ltb→lt (b * c) (a * c) q, none a c (y tt))))
 
 less : (a b c : ℕ) → b ≤ a → (a - b) * c + b * c ≡ a * c
-less a b c h = sym (add-mul (a - b) b c) ∙ ap (λ (x : ℕ). x * c) (back a b h)
-  where
-    back : (a b : ℕ) → b ≤ a → a - b + b ≡ a
-    back a b h = omega arith
+less a b c h = sym (add-mul (a - b) b c) ∙ ap (λ (x : ℕ). x * c) (sub-add_cancel h)
 
 sub_sum : (f : Format) (s t : Bool) (a b c : ℕ) → 0 < c → b ≤ a → a ≤ 2 ^ prec f → (T s → a ≡ 0) → (T t → b ≡ 0) → Whole (sum f s (a * c) (not t) (b * c) c) (a - b)
 unfolding sum
@@ -138,15 +136,7 @@ unfolding eq
 eq_whole x y a b v w = at_one_scale (λ (x y : Float). eq x y ≡ eqb a b) a b (λ s t m n e d C p q y z. rw (p, q) (level_is s t a b (down e * down d) C y z)) x y v w
 
 or_is : (a b : ℕ) → (ltb a b || eqb a b) ≡ leb a b
-or_is a b = same_test (ltb a b || eqb a b) (leb a b) (λ h. le→leb a b (there (ltb a b) (eqb a b) (ltb→lt a b) (eqb→eq a b) h)) (λ h. back (ltb a b) (nltb→le a b) (leb→le a b h))
-  where
-    there : (p q : Bool) → (T p → a < b) → (T q → a ≡ b) → T (p || q) → a ≤ b
-    there true q f g h = omega (arith, f tt)
-    there false q f g h = omega (arith, g h)
-
-    back : (p : Bool) → (T (not p) → b ≤ a) → a ≤ b → T (p || eqb a b)
-    back true f h = tt
-    back false f h = eq→eqb {a = a} {b = b} (omega (arith, f tt))
+or_is a b = grind (arith, nat_tests)
 
 pub le_whole : (x y : Float) (a b : ℕ) → Whole x a → Whole y b → le x y ≡ leb a b
 unfolding le
@@ -189,42 +179,15 @@ up_is a q n Q = (
   λ h. omega (arith, (div-lt_iff_lt-mul {k = q} {x = a + (q - 1)} {y = suc n} Q).0 (omega arith), suc-mul n q),
 )
 
-either : (p q : Bool) (P : Type 0) → (T p → P) → (T q → P) → T (p || q) → P
-either true q P f g h = f tt
-either false q P f g h = g h
-
-or_l : (p q : Bool) → T p → T (p || q)
-or_l true q h = tt
-or_l false q h = absurd h
-
-or_r : (p q : Bool) → T q → T (p || q)
-or_r true q h = tt
-or_r false q h = h
+at_most_is : (s t : Bool) (a b : ℕ) → (T s → a ≡ 0) → (T t → b ≡ 0) → (below s a t b || level s a t b) ≡ leb a b
+at_most_is false false a b y z = grind (arith, nat_tests)
+at_most_is false true a b y z = grind (arith, nat_tests, z tt)
+at_most_is true false a b y z = grind (arith, nat_tests, y tt)
+at_most_is true true a b y z = grind (arith, nat_tests, y tt, z tt)
 
 -- ±a ≤ ±b, where neither is below zero
 pub sizes : (s t : Bool) (a b : ℕ) → (T s → a ≡ 0) → (T t → b ≡ 0) → T (below s a t b || level s a t b) ↔ (a ≤ b)
-sizes s t a b y z = (λ h. either (below s a t b) (level s a t b) (a ≤ b) (lt_case s t y z) (λ k. omega (arith, eqb→eq a b (and_l (eqb a b) (beq s t || eqb a 0) k))) h, back (ltb a b) (ltb→lt a b) (nltb→le a b))
-  where
-    lt_case : (s t : Bool) → (T s → a ≡ 0) → (T t → b ≡ 0) → T (below s a t b) → a ≤ b
-    lt_case false false y z h = omega (arith, ltb→lt a b h)
-    lt_case false true y z h = absurd h
-    lt_case true t y z h = omega (arith, y tt)
-
-    lt_back : (s t : Bool) → (T s → a ≡ 0) → (T t → b ≡ 0) → a < b → T (below s a t b)
-    lt_back false false y z h = lt→ltb a b h
-    lt_back false true y z h = absurd (omega (arith, z tt))
-    lt_back true false y z h = lt→ltb 0 (a + b) (omega arith)
-    lt_back true true y z h = absurd (omega (arith, z tt))
-
-    eq_back : (s t : Bool) → (T s → a ≡ 0) → (T t → b ≡ 0) → a ≡ b → T (beq s t || eqb a 0)
-    eq_back true true y z h = tt
-    eq_back false false y z h = tt
-    eq_back true false y z h = eq→eqb (y tt)
-    eq_back false true y z h = eq→eqb (h ∙ z tt)
-
-    back : (q : Bool) → (T q → a < b) → (T (not q) → b ≤ a) → a ≤ b → T (below s a t b || level s a t b)
-    back true f g h = or_l (below s a t b) (level s a t b) (lt_back s t y z (f tt))
-    back false f g h = let e : a ≡ b = omega (arith, g tt) in or_r (below s a t b) (level s a t b) (and_i (eqb a b) (beq s t || eqb a 0) (eq→eqb e) (eq_back s t y z e))
+sizes s t a b y z = let e = at_most_is s t a b y z in (λ h. leb→le a b (subst T e h), λ h. subst T (sym e) (le→leb a b h))
 
 pub reach_any : (x : Float) → NotNegative x → Reach x (seconds_up x)
 unfolding le

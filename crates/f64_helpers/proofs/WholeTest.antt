@@ -1,5 +1,6 @@
 -- An f64 is finite with no fraction exactly if it less itself is 0 and it is its own floor. Assumes nothing.
 use Rattle.std.proofs.Common.{◌≡◌, ℕ, ◌+◌, ◌-◌, ◌*◌, ◌/◌, ◌%◌, ◌<◌, Bool, true, false, cond, not, ◌&&◌, ◌||◌, T, eqb, ltb, ℤ, pos, sym, refl, ap, ◌∙◌, subst, lt_irrefl, mul-pos, div-add-mod', mul-one, mul_right_comm, mul-div_cancel, arith, eqb→eq, ltb→lt}
+use Rattle.std.proofs.lemmas.Bool.Decides.{nat_tests}
 use native.Mathlib.Nat.{sub_self, eq_of_mul-eq-mul_right}
 use mathlib.Core.Bool.{beq, and-true}
 use lib.Ieee.{Float, nan, inf, fin, binary64, up, down, round, sum, add, sub, neg, eq, fits}
@@ -44,11 +45,7 @@ is_value (fin t n d) s q m e v =
 
 -- ---- a / b has no remainder exactly if a quotient, down or up, gives a back
 down_exact : (a b : ℕ) → 0 < b → eqb (quotient_down a b * b) a ≡ eqb (a % b) 0
-down_exact a b B =
-    let e : a / b * b + a % b ≡ a = div-add-mod' a b in
-    same_test (eqb (quotient_down a b * b) a) (eqb (a % b) 0)
-    (λ t. eq→eqb {a = a % b} {b = 0} (omega (arith, eqb→eq (a / b * b) a t)))
-    (λ t. eq→eqb {a = a / b * b} {b = a} (omega (arith, eqb→eq (a % b) 0 t)))
+down_exact a b B = let e : a / b * b + a % b ≡ a = div-add-mod' a b in grind (arith, nat_tests, e)
 
 up_exact : (a b : ℕ) → 0 < b → eqb (quotient_up a b * b) a ≡ eqb (a % b) 0
 up_exact a b B =

@@ -7,6 +7,7 @@ ghost use Rattle.f64_helpers.specs.Helpers as Helpers;
 ghost use Rattle.f64_helpers.specs.Seconds as Seconds;
 
 // The floor of an x above 0. From 2^52 on every f64 is whole.
+#[tactic(auto, using(crate::proofs::Casts::above_minus_one))]
 fn floor_of_positive(x: f64) -> f64
     requires { T (zero <ᶠ x) }
     ensures { result ≡ Helpers.floor x }
@@ -19,6 +20,7 @@ fn floor_of_positive(x: f64) -> f64
 }
 
 // The ceiling of an x above 0: one more than the whole part where that lies below x.
+#[tactic(auto, using(crate::proofs::Casts::above_minus_one))]
 fn ceil_of_positive(x: f64) -> f64
     requires { T (zero <ᶠ x) }
     ensures { result ≡ Helpers.ceil x }
@@ -37,6 +39,7 @@ fn ceil_of_positive(x: f64) -> f64
 }
 
 // `x.floor()`. The last case is a zero of either sign, or a NaN.
+#[tactic(auto, using(crate::proofs::Negation::neg_ceil))]
 pub fn floor(x: f64) -> f64
     ensures { result ≡ Helpers.floor x }
 {
@@ -50,6 +53,7 @@ pub fn floor(x: f64) -> f64
 }
 
 // `x.ceil()`.
+#[tactic(auto, using(crate::proofs::Negation::neg_floor))]
 pub fn ceil(x: f64) -> f64
     ensures { result ≡ Helpers.ceil x }
 {
@@ -57,6 +61,7 @@ pub fn ceil(x: f64) -> f64
 }
 
 // `x.abs()`. A NaN comes back as it came, with its sign; the contract knows one NaN, and speaks of no bits of it.
+#[tactic(auto, using(crate::proofs::AbsoluteValue::abs_nan))]
 pub fn abs(x: f64) -> f64
     ensures { result ≡ Helpers.abs x }
 {
@@ -72,6 +77,7 @@ pub fn abs(x: f64) -> f64
 }
 
 // `a.max(b)`. The sum of two zeros is -0.0 only if both are.
+#[tactic(auto, using(crate::proofs::Tests::is_nan_lem), unfolding(crate::specs::Helpers::max))]
 pub fn max(a: f64, b: f64) -> f64
     ensures { result ≡ Helpers.max a b }
 {
@@ -94,6 +100,7 @@ pub fn max_zero(x: f64) -> f64
 }
 
 // `a.min(b)`.
+#[tactic(auto, using(crate::proofs::Signs::neg_max))]
 pub fn min(a: f64, b: f64) -> f64
     ensures { result ≡ Helpers.min a b }
 {
@@ -101,6 +108,7 @@ pub fn min(a: f64, b: f64) -> f64
 }
 
 // `x as i64`.
+#[tactic(auto, using(crate::proofs::Casts::signed_nan))]
 pub fn as_i64(x: f64) -> i64
     ensures { result ≡ Helpers.as_i64 x }
 {

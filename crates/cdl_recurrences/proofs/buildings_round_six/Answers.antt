@@ -4,13 +4,10 @@ use Rattle.std.proofs.Common.{Bool, true, if◌then◌else◌}
 use lib.Ieee.{Float, binary64, fits, of_bits, neg}
 use Rattle.f64_helpers.specs.Seconds.{is_time}
 use Rattle.f64_helpers.specs.F64.{◌>ᶠ◌, zero}
-use Rattle.f64_helpers.proofs.Tests.{yes, no}
+use Rattle.f64_helpers.proofs.Tests.{yes}
 use Rattle.cdl_recurrences.specs.CdlRecurrences.{buildings_round_six}
 use Rattle.cdl_recurrences.proofs.SampleGrid.{round_six_time}
 use Rattle.cdl_recurrences.proofs.buildings_round_six.Goals as goal
-
-pub round_six_by_division-requires : goal.round_six_by_division-requires
-round_six_by_division-requires c = no (sym c.is_time.ensures ∙ c.if-is_time.false)
 
 -- after a yes of `is_time`
 of_a_time : (x : Float) (yes_of_it : Bool) → fits binary64 x ≡ true → yes_of_it ≡ is_time x → yes_of_it ≡ true → buildings_round_six x ≡ (if x >ᶠ zero then x else neg zero)

@@ -1,7 +1,7 @@
 -- `f64_helpers::abs` meets its contract. Assumes nothing.
 use lib.Ieee.{of_bits}
 use Rattle.f64_helpers.proofs.Tests.{yes, no}
-use Rattle.f64_helpers.proofs.AbsoluteValue.{abs_above, abs_below, abs_nan, abs_rest}
+use Rattle.f64_helpers.proofs.AbsoluteValue.{abs_above, abs_below, abs_rest}
 use Rattle.f64_helpers.proofs.abs.Goals as goal
 
 pub returns-then-x : goal.returns-then-x
@@ -11,9 +11,6 @@ returns-then-x c = abs_above c.args.x (yes c.if-x.true)
 pub returns-then-x-2 : goal.returns-then-x-2
 unfolding of_bits
 returns-then-x-2 c = abs_below c.args.x (yes c.if-x-2.true)
-
-pub returns-then-x-3 : goal.returns-then-x-3
-returns-then-x-3 c = abs_nan c.args.x (yes c.if-x-3.true)
 
 pub returns-else-x-3 : goal.returns-else-x-3
 unfolding of_bits

@@ -1,7 +1,7 @@
 -- `f64_helpers::as_i64` meets its contract. Assumes nothing.
 use lib.Ieee.{of_bits, neg}
 use Rattle.f64_helpers.proofs.Tests.{yes, no}
-use Rattle.f64_helpers.proofs.Casts.{signed_high, signed_low, signed_nan}
+use Rattle.f64_helpers.proofs.Casts.{signed_high, signed_low}
 use Rattle.f64_helpers.proofs.as_i64.Goals as goal
 
 pub truncating_f64_to_i64-requires-clause-lower_bound : goal.truncating_f64_to_i64-requires-clause-lower_bound
@@ -15,9 +15,6 @@ truncating_f64_to_i64-requires-clause-upper_bound c = yes c.if-x.true
 pub returns-else-x-2 : goal.returns-else-x-2
 unfolding of_bits neg
 returns-else-x-2 c = signed_low c.args.x (yes c.if-x.true) (no c.if-x-2.false)
-
-pub returns-then-x-3 : goal.returns-then-x-3
-returns-then-x-3 c = signed_nan c.args.x (yes c.if-x-3.true)
 
 pub returns-else-x-3 : goal.returns-else-x-3
 unfolding of_bits

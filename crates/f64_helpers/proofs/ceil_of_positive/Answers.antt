@@ -3,15 +3,11 @@ use Rattle.std.proofs.Common.{ℕ, ◌+◌, ◌<◌, not, T, sym, ◌∙◌, sub
 use lib.Ieee.{Float, of_bits, lt}
 use Rattle.f64_helpers.proofs.Tests.{yes, no}
 use Rattle.f64_helpers.proofs.Floors.{ceil_small_more, ceil_small_same, ceil_large}
-use Rattle.f64_helpers.proofs.Casts.{count_small, above_minus_one, below_2_64}
+use Rattle.f64_helpers.proofs.Casts.{count_small, below_2_64}
 use Rattle.f64_helpers.proofs.ceil_of_positive.Goals as goal
 
 room : (n : ℕ) → n < 4503599627370496 → Fits w64 (n + 1)
 room n h = omega arith
-
-pub truncating_f64_to_u64-n-requires-clause-lower_bound : goal.truncating_f64_to_u64-n-requires-clause-lower_bound
-unfolding of_bits
-truncating_f64_to_u64-n-requires-clause-lower_bound c = above_minus_one c.args.x c.requires
 
 pub truncating_f64_to_u64-n-requires-clause-upper_bound : goal.truncating_f64_to_u64-n-requires-clause-upper_bound
 unfolding of_bits

@@ -1,21 +1,14 @@
 -- `f64_helpers::floor` meets its contract. Assumes nothing.
-use Rattle.std.proofs.Common.{sym, ap, ◌∙◌}
-use lib.Ieee.{of_bits, neg}
+use Rattle.std.proofs.Common.{sym}
+use lib.Ieee.{of_bits}
 use Rattle.f64_helpers.proofs.Tests.{yes, no}
-use Rattle.f64_helpers.proofs.Negation.{neg_above, neg_ceil}
+use Rattle.f64_helpers.proofs.Negation.{neg_above}
 use Rattle.f64_helpers.proofs.Floors.{floor_rest}
 use Rattle.f64_helpers.proofs.floor.Goals as goal
-
-pub floor_of_positive-requires : goal.floor_of_positive-requires
-unfolding of_bits
-floor_of_positive-requires c = yes c.if-x.true
 
 pub ceil_of_positive-requires : goal.ceil_of_positive-requires
 unfolding of_bits
 ceil_of_positive-requires c = neg_above c.args.x (yes c.if-x-2.true)
-
-pub returns-then-x-2 : goal.returns-then-x-2
-returns-then-x-2 c = ap neg c.ceil_of_positive.ensures ∙ neg_ceil c.args.x
 
 pub returns-else-x-2 : goal.returns-else-x-2
 unfolding of_bits

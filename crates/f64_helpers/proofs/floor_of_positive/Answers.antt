@@ -3,12 +3,8 @@ use Rattle.std.proofs.Common.{ℕ, pos, sym, ap, ◌∙◌}
 use lib.Ieee.{binary64, of_bits, of_int}
 use Rattle.f64_helpers.proofs.Tests.{yes, no}
 use Rattle.f64_helpers.proofs.Floors.{floor_small, floor_large}
-use Rattle.f64_helpers.proofs.Casts.{above_minus_one, below_2_64}
+use Rattle.f64_helpers.proofs.Casts.{below_2_64}
 use Rattle.f64_helpers.proofs.floor_of_positive.Goals as goal
-
-pub truncating_f64_to_u64-requires-clause-lower_bound : goal.truncating_f64_to_u64-requires-clause-lower_bound
-unfolding of_bits
-truncating_f64_to_u64-requires-clause-lower_bound c = above_minus_one c.args.x c.requires
 
 pub truncating_f64_to_u64-requires-clause-upper_bound : goal.truncating_f64_to_u64-requires-clause-upper_bound
 unfolding of_bits

@@ -1,22 +1,10 @@
 -- `f64_helpers::max` meets its contract. Assumes nothing.
 use Rattle.std.proofs.Common.{true, false, refl, ◌∙◌}
-use lib.Ieee.{of_bits, lt, eq}
+use lib.Ieee.{of_bits, eq}
 use Rattle.f64_helpers.specs.F64.{zero}
 use Rattle.f64_helpers.proofs.Tests.{yes, is_nan_lem}
 use Rattle.f64_helpers.proofs.LargerOfTwo.{sum_of_zeros, max_by_tests}
 use Rattle.f64_helpers.proofs.max.Goals as goal
-
-pub returns-then-a : goal.returns-then-a
-returns-then-a c =
-    let x = c.args.a in
-    let y = c.args.b in
-    max_by_tests x y true (lt x y) (eq x zero) (eq y zero) (is_nan_lem x true c.if-a.true) refl refl refl
-
-pub returns-then-a-b : goal.returns-then-a-b
-returns-then-a-b c =
-    let x = c.args.a in
-    let y = c.args.b in
-    max_by_tests x y false true (eq x zero) (eq y zero) (is_nan_lem x false c.if-a.false) c.if-a-b.true refl refl
 
 pub returns-then-b : goal.returns-then-b
 unfolding of_bits

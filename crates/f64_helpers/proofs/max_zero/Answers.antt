@@ -5,19 +5,17 @@ use lib.Ieee.{Float, fin, of_bits, lt, eq, le, is_nan}
 use Rattle.f64_helpers.specs.F64.{zero}
 use Rattle.f64_helpers.specs.Helpers.{max, negative}
 use Rattle.f64_helpers.proofs.Tests.{yes, no, and_false}
+use lib.Ieee.Bits.{is_false}
+use Rattle.std.proofs.lemmas.Float.{le_right, le_of_lt, le_of_eq}
 use Rattle.f64_helpers.proofs.LargerOfTwo.{max_by_tests}
-use Rattle.f64_helpers.proofs.Order.{le_numbers, lt→le, eq→le, not_both, lt_is_not_le}
+use Rattle.f64_helpers.proofs.Order.{not_both, lt_is_not_le}
 use Rattle.f64_helpers.proofs.max_zero.Goals as goal
-
-off : (b : Bool) → T (not b) → b ≡ false
-off false h = refl
-off true h = absurd h
 
 -- above 0 the number is the larger
 above : (x : Float) → T (lt zero x) → x ≡ max x zero
 above x h =
-    max_by_tests x zero false false false (eq zero zero) (off (is_nan x) (le_numbers zero x (lt→le zero x h)).1)
-    (off (lt x zero) (not_T (lt x zero) (λ l. not_both zero x h (lt→le x zero l)))) (off (eq x zero) (not_T (eq x zero) (λ l. not_both zero x h (eq→le x zero l)))) refl
+    max_by_tests x zero false false false (eq zero zero) (is_false (is_nan x) (le_right zero x (le_of_lt zero x h)))
+    (is_false (lt x zero) (not_T (lt x zero) (λ l. not_both zero x h (le_of_lt x zero l)))) (is_false (eq x zero) (not_T (eq x zero) (λ l. not_both zero x h (le_of_eq x zero l)))) refl
 
 -- else 0 is: a zero of either sign gives +0.0, and so does a NaN
 not_above : (x : Float) → T (not (lt zero x)) → zero ≡ max x zero
