@@ -77,6 +77,7 @@ impl ControllerState {
         ControllerState::default()
     }
 
+    #[tactic(auto, unfolding(crate::specs::Controller::controller_output, crate::specs::ControllerPieces::airflow_steps))]
     pub fn output(
         self,
         t: f64,
@@ -112,6 +113,7 @@ impl ControllerState {
 }
 
 // The stages from the control loops to the damper, each fed by those before it.
+#[tactic(auto, using(f64_helpers::proofs::Integers::i64_kept), unfolding(crate::specs::ControllerPieces::airflow_steps))]
 pub fn airflow_steps(
     t: f64,
     input: ControllerInput,
