@@ -1,10 +1,8 @@
 -- `air_box_c::air_box_build` meets its contract: where a box is built, its record is stored. Assumes nothing.
-use Rattle.std.proofs.Common.{◌≡◌, Bool, true, false, Result, Ok, Err, sym, ap, ◌∙◌, if◌then◌else◌}
+use Rattle.std.proofs.Common.{arith, ◌≡◌, Ok, sym, ap, ◌∙◌}
 use Rattle.box_choices.specs.declared.Choices.{Choices}
-use Rattle.air_box.specs.AirBox.{unticked, design_flows_within, build}
+use Rattle.air_box.specs.AirBox.{unticked, build}
 use Rattle.air_box.specs.declared.AirBox.{AirBox}
-use Rattle.air_box.specs.declared.BuildRefusal.{BuildRefusal}
-use Rattle.air_box.specs.declared.BuildRefusal.TheVariants.{DesignFlowOutOfRange}
 use Rattle.air_box_c.specs.Records.{shut_box, fresh_record}
 use Rattle.air_box_c.specs.Promises.{BuiltAt}
 use Rattle.air_box_c.specs.declared.records.AirBoxC.{AirBoxC}
@@ -14,11 +12,7 @@ use Rattle.air_box_c.proofs.air_box_build.Goals as goal
 -- a box that is built has had no tick
 built_is : (i : Choices) (box : AirBox) → build i ≡ Ok box → unticked i ≡ box
 unfolding build
-built_is i box = go (design_flows_within i)
-  where
-    go : (q : Bool) → ◌≡◌ {A = Result AirBox BuildRefusal} (if q then Ok (unticked i) else Err DesignFlowOutOfRange) (Ok box) → unticked i ≡ box
-    go true e = cc
-    go false e = cc
+built_is i box e = grind arith
 
 built_at : (h : AirBoxC) (i : Choices) (box : AirBox) → build i ≡ Ok box → BuiltAt h i (fresh_record i) 0
 unfolding shut_box
