@@ -212,7 +212,6 @@ impl SystemRequestsState {
         SystemRequestsState::default()
     }
 
-    #[tactic(auto, unfolding(crate::specs::Airflow::system_requests))]
     pub fn output(
         self,
         t: f64,
@@ -430,7 +429,6 @@ impl AlarmsState {
         AlarmsState::default()
     }
 
-    #[tactic(auto, unfolding(crate::specs::Airflow::alarms))]
     pub fn output(
         self,
         t: f64,
