@@ -1,6 +1,6 @@
 -- Demands 1 and 2, from the order in which `questions` asks. The laws of the questions (`questions_accept`, `questions_refuse`, `accepted_time`) and of a tick by its verdict (`tick_accepted`, `tick_refused`) serve the claims about nights too. Assumes nothing.
 use mathlib.Core.Path.{◌≡◌, refl, sym, ap, ◌∙◌, subst}
-use mathlib.Core.Logic.{◌↔◌, ◌⊎◌, inl, inr}
+use mathlib.Core.Logic.{◌↔◌, inl, inr}
 use Rattle.std.specs.Prelude.{Float, Option, Result, Ok, Err, ⊤}
 use Prim.Native.Nat.{ℕ, ◌+◌, ◌<◌, ◌≤◌}
 use native.Mathlib.Omega.{arith}
@@ -8,7 +8,6 @@ use mathlib.Core.Bool.{Bool, true, false, not, cond}
 use lib.Dec.{T, T_not, ltb, eqb, ltb→lt, nltb→le, lit<}
 use Rattle.f64_helpers.specs.Seconds.{IsTime}
 use Rattle.f64_helpers.proofs.Times.{time_of_whole}
-use Rattle.cooling_only_controller.specs.declared.ControllerOutput.{ControllerOutput}
 use Rattle.air_box.specs.AirBox.{yes, questions, accepted_tick, tick, given_for, refusal_number, outputs_or_number}
 use Rattle.air_box.specs.Demand1.{AllYes, FirstNo, Demand1}
 use Rattle.air_box.specs.Demand2.{controller_step_of, Demand2}
@@ -72,20 +71,16 @@ above_zero AirflowOutOfRange = lit< tt
 
 module _ (b : Refusal → Bool) where
   none_below : Below b 1
-  none_below other l = absurd (none (refusal_number other) (above_zero other) l)
-    where
-      none : (n : ℕ) → 0 < n → n < 1 → ⊥
-      none n p q = omega arith
+  none_below other l = absurd (omega (arith, above_zero other))
 
   one_more : (n : ℕ) → Below b n → T (b (of_number n)) → Below b (n + 1)
   one_more n f y other l = go (ltb (refusal_number other) n) (ltb→lt (refusal_number other) n) (nltb→le (refusal_number other) n)
     where
-      same : (a c : ℕ) → a < c + 1 → c ≤ a → a ≡ c
-      same a c p q = omega arith
-
       go : (q : Bool) → (T q → refusal_number other < n) → (T (not q) → n ≤ refusal_number other) → T (b other)
       go true p r = f other (p tt)
-      go false p r = subst (λ (o : Refusal). T (b o)) (ap of_number (sym (same (refusal_number other) n l (r tt))) ∙ by_number other) y
+      go false p r =
+          let same : n ≡ refusal_number other = omega (arith, r tt) in
+          subst (λ (o : Refusal). T (b o)) (ap of_number same ∙ by_number other) y
 
   -- what is known of the first "no"
   abbrev First : Refusal → Type 0
@@ -93,11 +88,7 @@ module _ (b : Refusal → Bool) where
 
   -- one question: it gets the first "no", or the rest decides
   asked : (x : Refusal) (found : Refusal) (rest : Result ⊤ Refusal) → Below b (refusal_number x) → (T (b x) → rest ≡ Err found → First found) → cond (not (b x)) (Err x) rest ≡ Err found → First found
-  asked x found rest f next h = go (b x) refl h
-    where
-      go : (q : Bool) → b x ≡ q → cond (not q) (Err x) rest ≡ Err found → First found
-      go true e h = next (subst T (sym e) tt) h
-      go false e h = let same : x ≡ found = cc in subst First same (subst (λ (q : Bool). T (not q)) (sym e) tt, f)
+  asked x found rest f next h = grind arith
 
   -- the verdict is a refusal exactly if its reason is the first "no"
   refused→first : (found : Refusal) → verdict b ≡ Err found → First found
@@ -110,54 +101,31 @@ module _ (b : Refusal → Bool) where
       asked Co2OutOfRange found _ f5 (λ y6 h6. let f6 : Below b 7 = one_more 6 f5 y6 in
       asked AirflowOutOfRange found _ f6 (λ y7 h7. cc) h6) h5) h4) h3) h2) h1) h
 
-  -- a verdict that is none of a refusal: this question gets a "yes", and the rest decides likewise
-  let_pass : (x : Refusal) (rest : Result ⊤ Refusal) → cond (not (b x)) (Err x) rest ≡ Ok tt → T (b x) × (rest ≡ Ok tt)
-  let_pass x rest h = go (b x) refl h
-    where
-      go : (q : Bool) → b x ≡ q → cond (not q) (Err x) rest ≡ Ok tt → T (b x) × (rest ≡ Ok tt)
-      go true e h = (subst T (sym e) tt, h)
-      go false e h = cc
-
+  -- a verdict that is no refusal has got a "yes" from every question
   accept→all : verdict b ≡ Ok tt → (reason : Refusal) → T (b reason)
-  accept→all h reason =
-      let p1 = let_pass NotWholeSeconds _ h in
-      let p2 = let_pass TimeOutOfRange _ p1.1 in
-      let p3 = let_pass BeforeLast _ p2.1 in
-      let p4 = let_pass TooLongAfterLast _ p3.1 in
-      let p5 = let_pass TemperatureOutOfRange _ p4.1 in
-      let p6 = let_pass Co2OutOfRange _ p5.1 in
-      let p7 = let_pass AirflowOutOfRange _ p6.1 in
-      each reason p1.0 p2.0 p3.0 p4.0 p5.0 p6.0 p7.0
-    where
-      each : (reason : Refusal) → T (b NotWholeSeconds) → T (b TimeOutOfRange) → T (b BeforeLast) → T (b TooLongAfterLast)
-          → T (b TemperatureOutOfRange) → T (b Co2OutOfRange) → T (b AirflowOutOfRange) → T (b reason)
-      each NotWholeSeconds y1 y2 y3 y4 y5 y6 y7 = y1
-      each TimeOutOfRange y1 y2 y3 y4 y5 y6 y7 = y2
-      each BeforeLast y1 y2 y3 y4 y5 y6 y7 = y3
-      each TooLongAfterLast y1 y2 y3 y4 y5 y6 y7 = y4
-      each TemperatureOutOfRange y1 y2 y3 y4 y5 y6 y7 = y5
-      each Co2OutOfRange y1 y2 y3 y4 y5 y6 y7 = y6
-      each AirflowOutOfRange y1 y2 y3 y4 y5 y6 y7 = y7
+  accept→all h NotWholeSeconds = grind arith
+  accept→all h TimeOutOfRange = grind arith
+  accept→all h BeforeLast = grind arith
+  accept→all h TooLongAfterLast = grind arith
+  accept→all h TemperatureOutOfRange = grind arith
+  accept→all h Co2OutOfRange = grind arith
+  accept→all h AirflowOutOfRange = grind arith
+
+  all→accept : ((reason : Refusal) → T (b reason)) → verdict b ≡ Ok tt
+  all→accept f =
+      grind (arith, f NotWholeSeconds, f TimeOutOfRange, f BeforeLast, f TooLongAfterLast, f TemperatureOutOfRange, f Co2OutOfRange, f AirflowOutOfRange)
 
   -- and back: any other verdict would have a reason that is no first "no", or none
-  all→accept : ((reason : Refusal) → T (b reason)) → verdict b ≡ Ok tt
-  all→accept f = go (verdict b) refl
-    where
-      go : (v : Result ⊤ Refusal) → verdict b ≡ v → verdict b ≡ Ok tt
-      go (Ok _) e = e
-      go (Err x) e = absurd (T_not (b x) (refused→first x e).0 (f x))
-
   first→refused : (found : Refusal) → First found → verdict b ≡ Err found
   first→refused found f = go (verdict b) refl
     where
-      same : (n m : ℕ) → ¬ (n < m) → ¬ (m < n) → n ≡ m
-      same n m p q = omega arith
-
       go : (v : Result ⊤ Refusal) → verdict b ≡ v → verdict b ≡ Err found
       go (Ok _) e = absurd (T_not (b found) f.0 (accept→all e found))
       go (Err x) e =
           let g : First x = refused→first x e in
-          e ∙ ap Err (same_reason x found (same (refusal_number x) (refusal_number found) (λ l. T_not (b x) g.0 (f.1 x l)) (λ l. T_not (b found) f.0 (g.1 found l))))
+          let not_less : ¬ (refusal_number x < refusal_number found) = λ l. T_not (b x) g.0 (f.1 x l) in
+          let not_more : ¬ (refusal_number found < refusal_number x) = λ l. T_not (b found) f.0 (g.1 found l) in
+          e ∙ ap Err (same_reason x found (omega arith))
 
 -- ---- the questions, asked of a tick after the last accepted time `last`
 pub questions_accept : (last : Option Float) (k : Tick) → (questions last k ≡ Ok tt) ↔ AllYes last k
@@ -202,19 +170,12 @@ gives_outputs box k all = ap (λ (s : AirBoxStep). outputs_or_number s.answer) (
 pub gives_number : (box : AirBox) (k : Tick) (reason : Refusal) → FirstNo reason box.last_time k → given_for box k ≡ inr (refusal_number reason)
 gives_number box k reason first = ap (λ (s : AirBoxStep). outputs_or_number s.answer) (tick_refused box k reason first)
 
--- outputs are no number
-apart : {P : Type 0} (given : ControllerOutput ⊎ ℕ) (output : ControllerOutput) (number : ℕ) → given ≡ inl output → given ≡ inr number → P
-apart given output number e f = cc
-
-same_number : (given : ControllerOutput ⊎ ℕ) (n m : ℕ) → given ≡ inr n → given ≡ inr m → n ≡ m
-same_number given n m e f = cc
-
 -- a tick that gives a number is refused for the reason of that number
 refused_for : (box : AirBox) (k : Tick) (number : ℕ) → given_for box k ≡ inr number
     → (reason : Refusal) × (number ≡ refusal_number reason) × FirstNo reason box.last_time k
 refused_for box k number g =
-    by_verdict box.last_time k (λ all. apart (given_for box k) _ number (gives_outputs box k all) g)
-    (λ reason first. (reason, same_number (given_for box k) number (refusal_number reason) g (gives_number box k reason first), first))
+    by_verdict box.last_time k (λ all. cc (gives_outputs box k all, g))
+    (λ reason first. (reason, cc (g, gives_number box k reason first), first))
 
 pub demand_1 : Demand1
 demand_1 = record {
@@ -226,7 +187,7 @@ demand_1 = record {
   no_other_number = λ box k number g. let r = refused_for box k number g in (r.0, r.1);
   outputs_if_all_yes = λ box k. (
     λ g. by_verdict box.last_time k (λ all. all)
-        (λ reason first. apart (given_for box k) g.0 (refusal_number reason) g.1 (gives_number box k reason first)),
+        (λ reason first. cc (g.1, gives_number box k reason first)),
     λ all. ((controller_step_of box k).output, gives_outputs box k all),
   );
   refused_changes_nothing = λ box k number g. let r = refused_for box k number g in ap (λ (s : AirBoxStep). s.state) (tick_refused box k r.0 r.2);

@@ -20,8 +20,7 @@ use Rattle.cooling_only_controller_airflow.specs.declared.AlarmOutput.{AlarmOutp
 use Rattle.cooling_only_controller_airflow.specs.declared.AlarmsState.{AlarmsState}
 use Rattle.cooling_only_controller_airflow.proofs.AlarmsByFan.{low_levels, sensor_levels, leak_levels, sensor_with_fan_on, low_with_fan_off, leak_with_fan_off}
 use Rattle.cooling_only_controller.specs.Controller.{controller_output}
-use Rattle.cooling_only_controller.specs.declared.ControllerOutput.{ControllerOutput}
-use Rattle.air_box.specs.AirBox.{questions, accepted_tick, tick, fresh_box, given_for, desk_code}
+use Rattle.air_box.specs.AirBox.{questions, accepted_tick, tick, fresh_box, desk_code}
 use Rattle.air_box.specs.Demand2.{controller_step_of}
 use Rattle.air_box.specs.BenchTick.{bench_tick}
 use Rattle.air_box.specs.LeakFirst.{alarms_of, Shows, AtEveryTick, code, old_code, Low, ListOfChanges, SensorAlone, levels, Line, line_of, together, Among, Tells, OfAnyThree, LeakFirst}
@@ -35,13 +34,11 @@ stage : (box : AirBox) (k : Tick) → (input : AlarmInput) × (alarms_of (contro
 unfolding controller_output
 stage box k = (_, refl)
 
-same_output : (given : ControllerOutput ⊎ ℕ) (x y : ControllerOutput) → given ≡ inl x → given ≡ inl y → x ≡ y
-same_output given x y e f = cc
-
 shown_by_stage : (box : AirBox) (k : Tick) (a : AlarmOutput) → Shows box k a → (alarms box.state.alarms k.t (stage box k).0 box.choices).output ≡ a
 shown_by_stage box k a (output, given, same) =
     let all = (demand_1.outputs_if_all_yes box k).0 (output, given) in
-    sym (stage box k).1 ∙ ap alarms_of (same_output (given_for box k) _ output (demand_2 box k all).outputs given) ∙ same
+    let alike : (controller_step_of box k).output ≡ output = cc ((demand_2 box k all).outputs, given) in
+    sym (stage box k).1 ∙ ap alarms_of alike ∙ same
 
 -- ---- the list is complete
 three_of : (a : AlarmOutput) (low sensor leak : ℕ) → a.low_airflow ≡ pos low → a.airflow_sensor ≡ pos sensor → a.leaking_damper ≡ pos leak → line_of a ≡ line_of (levels low sensor leak)

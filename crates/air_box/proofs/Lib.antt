@@ -1,3 +1,4 @@
 pub mod Demands
 pub mod LeakFirst
 pub mod NoDivision
+pub mod Literals

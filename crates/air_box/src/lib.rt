@@ -184,6 +184,7 @@ fn unticked(choices: Choices) -> AirBox
 }
 
 // Whether a box of these design flows can be built: the cooling maximum from 0.1 to 10.0, and the minimum from 0.0 to that.
+#[tactic(auto, using(crate::proofs::Literals::literals))]
 fn design_flows_within(choices: Choices) -> bool
     ensures { result ≡ AirBoxes.design_flows_within choices }
 {
@@ -192,6 +193,7 @@ fn design_flows_within(choices: Choices) -> bool
 }
 
 // The seven questions, in order: the first "no" is the reason.
+#[tactic(auto, using(crate::proofs::Literals::literals), unfolding(crate::specs::AirBox::questions))]
 pub fn questions(last_time: Option<f64>, tick: Tick) -> Result<(), Refusal>
     ensures { result ≡ AirBoxes.questions last_time tick }
 {
@@ -234,12 +236,14 @@ fn at_or_after(last_time: Option<f64>, t: f64) -> bool
     last_time.is_none_or(|last| t >= last)
 }
 
+#[tactic(auto, using(crate::proofs::Literals::literals))]
 fn soon_after(last_time: Option<f64>, t: f64) -> bool
     ensures { result ≡ AirBoxes.soon_after last_time t }
 {
     last_time.is_none_or(|last| t - last <= 240.0)
 }
 
+#[tactic(auto, using(crate::proofs::Literals::literals))]
 fn temperatures_within(input: ControllerInput) -> bool
     ensures { result ≡ AirBoxes.temperatures_within input }
 {

@@ -71,10 +71,7 @@ unfolding tick open_box
 ticks c k v e = rw e
 
 pub not_zero : (reason : Refusal) → T (eqb (refusal_number reason) 0) → ⊥
-not_zero reason z = none (refusal_number reason) (above_zero reason) (eqb→eq (refusal_number reason) 0 z)
-  where
-    none : (n : ℕ) → 0 < n → n ≡ 0 → ⊥
-    none n p e = omega arith
+not_zero reason z = omega (arith, above_zero reason, eqb→eq (refusal_number reason) 0 z)
 
 accepted_by : (c : AirBoxC) (k : Tick) (w : ControllerOutput) → questions (open_time c.last.time) k ≡ Ok tt
     → Ticked c k w (shut_box (accepted_tick (open_box c) k).state) (lasted c k).output 0

@@ -16,6 +16,7 @@ use records::AirBoxC;
 
 // A box that has had no tick, with the usual design flows and the first reading.
 #[unsafe(no_mangle)]
+#[tactic(auto, using(crate::proofs::OpenShut::fresh_opened))]
 pub extern "C" fn air_box_fresh(quiet: bool) -> AirBoxC
     ensures { Promises.Fresh (BoxChoices.usual quiet) result }
 {
@@ -65,6 +66,7 @@ pub extern "C" fn air_box_tick(b: &mut AirBoxC, tick: &Tick, output: &mut Contro
 
 // One number from the three alarms.
 #[unsafe(no_mangle)]
+#[tactic(auto, using(f64_helpers::proofs::Integers::i64_kept))]
 pub extern "C" fn air_box_desk_code(
     low_airflow: i64,
     airflow_sensor: i64,

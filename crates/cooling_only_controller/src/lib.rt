@@ -79,6 +79,7 @@ impl ControllerState {
         ControllerState::default()
     }
 
+    #[tactic(auto, unfolding(crate::specs::Controller::controller_output, crate::specs::ControllerPieces::airflow_steps))]
     pub fn output(
         self,
         t: f64,
@@ -114,6 +115,7 @@ impl ControllerState {
 }
 
 // The stages from the control loops to the damper, each fed by those before it. Their states come one by one: the controller has them among others, C in a record of its own.
+#[tactic(auto, using(f64_helpers::proofs::Integers::i64_kept), unfolding(crate::specs::ControllerPieces::airflow_steps))]
 pub fn airflow_steps(
     t: f64,
     input: ControllerInput,

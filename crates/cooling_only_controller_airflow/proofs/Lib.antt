@@ -1,4 +1,3 @@
 pub mod ByPieces
 pub mod AlarmsByFan
 pub mod FlowHigh
-mod Literals

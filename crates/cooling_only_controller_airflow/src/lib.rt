@@ -57,6 +57,7 @@ impl DamperState {
     }
 
     // The PI's output is formed with the old integrator, which a starting fan resets. The loops' PI is written out likewise, as in the Rust.
+    #[tactic(auto, using(f64_helpers::proofs::Integers::i64_kept, cooling_only_controller_timing::proofs::Literals::literals), unfolding(crate::specs::Airflow::damper, crate::specs::AirflowPieces::airflow_setpoint, crate::specs::AirflowPieces::airflow_override, crate::specs::AirflowPieces::damper_override))]
     pub fn output(
         self,
         t: f64,
@@ -104,6 +105,7 @@ impl DamperState {
 }
 
 // The setpoint that the cooling loop asks for in the cooling state with cool supply air, else the minimum; an override comes first.
+#[tactic(auto, using(f64_helpers::proofs::Integers::i64_kept, f64_helpers::proofs::Integers::equals_literal, cooling_only_controller_timing::proofs::Literals::literals), unfolding(crate::specs::AirflowPieces::airflow_setpoint, crate::specs::AirflowPieces::airflow_override))]
 fn airflow_setpoint(input: DamperInput, supply_warm: bool, choices: Choices) -> f64
     ensures { result ≡ AirflowPieces.airflow_setpoint input supply_warm choices }
 {
@@ -133,7 +135,7 @@ fn airflow_override(index: i64, base: f64, choices: Choices) -> f64
 }
 
 // Override 1 closes, 2 opens; any other index leaves the PI's output.
-#[tactic(auto, using(crate::proofs::Literals::one_by_bits), unfolding(crate::specs::AirflowPieces::damper_override))]
+#[tactic(auto, using(cooling_only_controller_timing::proofs::Literals::literals), unfolding(crate::specs::AirflowPieces::damper_override))]
 fn damper_override(index: i64, pid_output: f64) -> f64
     ensures { result ≡ AirflowPieces.damper_override index pid_output }
 {
@@ -225,6 +227,7 @@ impl SystemRequestsState {
         system_requests_step(temperature, pressure)
     }
 
+    #[tactic(auto, using(f64_helpers::proofs::Integers::i64_kept, cooling_only_controller_timing::proofs::Literals::literals), unfolding(crate::specs::Airflow::system_requests))]
     fn temperature_request(
         self,
         t: f64,
@@ -261,6 +264,7 @@ impl SystemRequestsState {
     }
 
     // The damper's sampler sees the command after its override.
+    #[tactic(auto, using(f64_helpers::proofs::Integers::i64_kept, cooling_only_controller_timing::proofs::Literals::literals), unfolding(crate::specs::Airflow::system_requests))]
     fn pressure_request(
         self,
         t: f64,
@@ -312,6 +316,7 @@ impl SystemRequestsState {
 }
 
 // Whether the flow falls short of a share of the setpoint.
+#[tactic(auto, using(cooling_only_controller_timing::proofs::Literals::literals))]
 fn starved(share: f64, setpoint: f64, discharge: f64, previous: bool) -> bool
     ensures { result ≡ AirflowPieces.starved share setpoint discharge previous }
 {
@@ -440,6 +445,7 @@ impl AlarmsState {
     }
 
     // Both low-flow memories move on every tick, whether the fan is armed or not.
+    #[tactic(auto, using(f64_helpers::proofs::Integers::i64_kept, cooling_only_controller_timing::proofs::Literals::literals), unfolding(crate::specs::Airflow::alarms))]
     fn low_airflow(self, t: f64, input: AlarmInput, choices: Choices) -> LowAirflowStep
         ensures { result ≡ AirflowPieces.low_airflow self t input choices }
     {
@@ -481,6 +487,7 @@ impl AlarmsState {
         }
     }
 
+    #[tactic(auto, using(f64_helpers::proofs::Integers::i64_kept, f64_helpers::proofs::Integers::equals_literal, cooling_only_controller_timing::proofs::Literals::literals, crate::proofs::ByPieces::sensor_input_by_code, crate::proofs::ByPieces::sensor_on_by_code), unfolding(crate::specs::Airflow::alarms))]
     fn sensor_leak(self, t: f64, input: AlarmInput, choices: Choices) -> SensorLeakStep
         ensures { result ≡ AirflowPieces.sensor_leak self t input choices }
     {

@@ -53,6 +53,7 @@ impl LatchState {
         LatchState::default()
     }
 
+    #[tactic(auto, unfolding(crate::specs::Conditioning::latch))]
     pub fn output(self, input: bool, clear: bool) -> Step<LatchState, bool>
         ensures { result ≡ Conditioning.latch self input clear }
     {
@@ -99,6 +100,7 @@ impl TimeSuppressionState {
         TimeSuppressionState::default()
     }
 
+    #[tactic(auto, unfolding(crate::specs::Conditioning::time_suppression, crate::specs::ConditioningPieces::suppression_window))]
     pub fn output(
         self,
         t: f64,
@@ -138,6 +140,7 @@ impl TimeSuppressionState {
     }
 
     // The sampled setpoint against the one a period earlier, once the first period is over.
+    #[tactic(auto, using(cooling_only_controller_timing::proofs::Literals::literals), unfolding(crate::specs::Conditioning::time_suppression))]
     fn change_detected(self, t: f64, setpoint_temperature: f64) -> ChangeStep
         ensures { result ≡ ConditioningPieces.change_detected self t setpoint_temperature }
     {
@@ -167,6 +170,7 @@ impl TimeSuppressionState {
 }
 
 // Seconds for which requests wait: 540 for each kelvin, at most 1800.
+#[tactic(auto, using(cooling_only_controller_timing::proofs::Literals::literals), unfolding(crate::specs::ConditioningPieces::suppression_window))]
 fn suppression_window(captured_setpoint: f64, captured_zone: f64) -> f64
     ensures { result ≡ ConditioningPieces.suppression_window captured_setpoint captured_zone }
 {
@@ -192,6 +196,7 @@ impl LoopPiState {
     }
 
     // The output is formed with the old integrator. The damper's PI is written out likewise, as in the Rust: one for both would take gain, time, reset and error besides.
+    #[tactic(auto, using(cooling_only_controller_timing::proofs::Literals::literals), unfolding(crate::specs::Conditioning::loop_pi))]
     pub fn output(self, t: f64, error: f64, trigger: bool) -> Step<LoopPiState, f64>
         ensures { result ≡ Conditioning.loop_pi self t error trigger }
     {
@@ -248,6 +253,7 @@ struct LoopState {
 impl LoopState {
     // One loop, enabled by below < above, with a dead band of 0.25. The PI runs on every tick, enabled or not, on `above` less `below`; its integrator is reset when the loop becomes enabled.
     // The signal is the PI's output, cut to 0 once that has been near zero for a while and the loop is not enabled.
+    #[tactic(auto, using(cooling_only_controller_timing::proofs::Literals::literals), unfolding(crate::specs::ConditioningPieces::control_loop))]
     fn output(self, t: f64, below: f64, above: f64) -> Step<LoopState, f64>
         ensures { result ≡ ConditioningPieces.control_loop self t below above }
     {
@@ -280,6 +286,7 @@ impl ControlLoopsState {
         ControlLoopsState::default()
     }
 
+    #[tactic(auto, unfolding(crate::specs::Conditioning::control_loops, crate::specs::ConditioningPieces::control_loop))]
     pub fn output(
         self,
         t: f64,
@@ -355,6 +362,7 @@ impl SetpointsState {
         SetpointsState::default()
     }
 
+    #[tactic(auto, using(cooling_only_controller_timing::proofs::Literals::literals, f64_helpers::proofs::Integers::equals_literal), unfolding(crate::specs::Conditioning::setpoints))]
     pub fn output(
         self,
         input: SetpointInput,
@@ -405,6 +413,7 @@ impl SetpointsState {
 }
 
 // The line from (0, f1) to (1, f2) at u.
+#[tactic(auto, using(cooling_only_controller_timing::proofs::Literals::literals))]
 fn unit_line(f1: f64, f2: f64, u: f64) -> f64
     ensures { result ≡ buildings_line zero f1 (decimal 1 1) f2 u }
 {
@@ -418,6 +427,7 @@ pub struct ActiveAirflowOutput {
 }
 
 // The flow limits of the operating mode: 1 occupied, 2 and 3 cooldown and setup. The mode is a number, as C sends it: any other is a mode too.
+#[tactic(auto, using(f64_helpers::proofs::Integers::i64_kept, f64_helpers::proofs::Integers::equals_literal), unfolding(crate::specs::Conditioning::active_airflow))]
 pub fn active_airflow(
     operating_mode: i64,
     occupied_minimum: f64,
@@ -450,6 +460,7 @@ impl ZoneStatesState {
     }
 
     // 1 heating, 2 deadband, 3 cooling. A number and no enum: the damper takes any i64 for its zone state, and an enum there would ask more of its callers.
+    #[tactic(auto, using(f64_helpers::proofs::Integers::i64_kept, cooling_only_controller_timing::proofs::Literals::literals), unfolding(crate::specs::Conditioning::zone_states))]
     pub fn output(self, heating: f64, cooling: f64) -> Step<ZoneStatesState, i64>
         ensures { result ≡ Conditioning.zone_states self heating cooling }
     {

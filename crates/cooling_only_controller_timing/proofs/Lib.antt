@@ -1,3 +1,4 @@
 pub mod TrueDelayLaw
 pub mod SamplerLaw
 pub mod UnitDelayLaw
+pub mod Literals

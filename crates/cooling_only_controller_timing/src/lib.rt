@@ -32,6 +32,7 @@ impl SamplerState {
     }
 
     // A sample's being due decides both the output and what is stored, so it is asked once; the state is written out so that no padding is copied.
+    #[tactic(auto, using(f64_helpers::proofs::Integers::i64_kept), unfolding(crate::specs::Timing::sampler_sample, cdl_recurrences::specs::CdlRecurrences::sampler_output))]
     pub fn sample(self, t: f64, input: f64, period: f64) -> Step<SamplerState, f64>
         ensures { result ≡ Timing.sampler_sample self t input period }
     {
@@ -60,6 +61,7 @@ impl SamplerState {
 }
 
 // The state of a sampler after its first tick.
+#[tactic(auto, using(f64_helpers::proofs::Integers::i64_kept), unfolding(crate::specs::Timing::sampler_sample))]
 fn sampler_first_sample(t: f64, input: f64, period: f64) -> SamplerState
     ensures { result ≡ (Timing.sampler_sample Timing.fresh_sampler t input period).state }
 {
@@ -91,6 +93,7 @@ impl UnitDelayState {
         UnitDelayState::default()
     }
 
+    #[tactic(auto, using(f64_helpers::proofs::Integers::i64_kept), unfolding(crate::specs::Timing::unit_delay_sample))]
     pub fn sample(self, t: f64, input: f64, period: f64) -> Step<UnitDelayState, f64>
         ensures { result ≡ Timing.unit_delay_sample self t input period }
     {
@@ -120,6 +123,7 @@ impl UnitDelayState {
     }
 
     // The state after the first tick, which is taken as such whatever the flag says.
+    #[tactic(auto, using(f64_helpers::proofs::Integers::i64_kept, crate::proofs::Literals::literals), unfolding(crate::specs::Timing::unit_delay_sample))]
     fn first_sample(self, t: f64, input: f64, period: f64) -> UnitDelayState
         ensures { result ≡ TimingPieces.unit_delay_first_sample self t input period }
     {
@@ -154,6 +158,7 @@ impl TrueDelayState {
         TrueDelayState::default()
     }
 
+    #[tactic(auto, unfolding(crate::specs::Timing::true_delay))]
     pub fn output(
         self,
         t: f64,
@@ -201,6 +206,7 @@ impl TimerState {
         TimerState::default()
     }
 
+    #[tactic(auto, unfolding(crate::specs::Timing::timer_elapsed))]
     pub fn elapsed(self, t: f64, input: bool) -> Step<TimerState, f64>
         ensures { result ≡ Timing.timer_elapsed self t input }
     {

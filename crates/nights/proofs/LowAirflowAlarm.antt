@@ -1,10 +1,10 @@
 -- The low airflow alarm after a history of accepted ticks, for either delay_on_init of the fan's arming: it is told by three true delays over that history. A box whose fan is armed earlier shows it no later. Assumes nothing.
 use mathlib.Core.Path.{◌≡◌, refl, subst}
-use mathlib.Core.Logic.{◌⊎◌, inl, inr}
+use mathlib.Core.Logic.{◌⊎◌}
 use mathlib.Core.List.{List, [], ◌∷◌}
 use native.Mathlib.Nat.{le_refl}
 use native.Mathlib.Omega.{arith}
-use mathlib.Core.Bool.{Bool, true, false, ◌&&◌}
+use mathlib.Core.Bool.{Bool, false, ◌&&◌}
 use lib.IntN.{ℤ, pos}
 use lib.Dec.{T}
 use lib.Ieee.{Float}
@@ -13,7 +13,6 @@ use Rattle.f64_helpers.specs.F64.{decimal}
 use Rattle.std.specs.Prelude.{if◌then◌else◌}
 use Rattle.f64_helpers.specs.Integers.{◌==ᶻ◌}
 use Rattle.f64_helpers.specs.Seconds.{seconds}
-use Rattle.f64_helpers.proofs.Tests.{and_false}
 use Rattle.box_choices.specs.declared.Choices.{Choices}
 use Rattle.cooling_only_controller_timing.specs.Timing.{true_delay, fresh_true_delay}
 use Rattle.cooling_only_controller_timing.specs.History.{true_delay_after}
@@ -41,14 +40,7 @@ low_level half seventy setpoint_on occupied = if half && setpoint_on && occupied
 -- Where an old low flow has stood for long, the new has; and where the new half and the old seventy have, the old half has.
 levels : (half seventy old_half old_seventy setpoint_on occupied : Bool) → (T old_half → T half) → (T old_seventy → T seventy) → (T half → T old_seventy → T old_half)
     → (low_level old_half old_seventy setpoint_on occupied ≡ pos 0) ⊎ (low_level half seventy setpoint_on occupied ≡ low_level old_half old_seventy setpoint_on occupied)
-levels half seventy old_half old_seventy setpoint_on false f g b = inl (rw (and_false (old_half && setpoint_on), and_false (old_seventy && setpoint_on)))
-levels half seventy old_half old_seventy false true f g b = inl (rw (and_false old_half, and_false old_seventy))
-levels true seventy true old_seventy true true f g b = inr refl
-levels false seventy true old_seventy true true f g b = absurd (f tt)
-levels true seventy false true true true f g b = absurd (b tt tt)
-levels false true false true true true f g b = inr refl
-levels false false false true true true f g b = absurd (g tt)
-levels half seventy false false true true f g b = inl refl
+levels half seventy old_half old_seventy setpoint_on occupied f g b = grind arith
 
 -- The stage takes the tick k: its state before and afterwards, and the low airflow alarm that it shows.
 abbrev pub Taken : Bool → Choices → Tick → AlarmsState → AlarmsState → ℤ → Type 0

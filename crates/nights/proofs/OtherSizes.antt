@@ -1,4 +1,5 @@
 -- N13. Building by its two ranges; a tick by its verdict; the definitions with 0.5 and 1.5 in them are those of today at the usual choices. Assumes nothing.
+use Rattle.std.proofs.Common.{arith}
 use mathlib.Core.Path.{◌≡◌, refl, sym, ap, ◌∙◌}
 use mathlib.Core.Logic.{◌↔◌, ◌⊎◌, inl, inr}
 use mathlib.Core.List.{List, [], ◌∷◌, map}
@@ -59,8 +60,7 @@ refused_if true choices = (λ e. cc, λ t. absurd t)
 refused_if false choices = (λ e. tt, λ t. refl)
 
 number_8 : (b : Bool) (choices : Choices) (n : ℕ) → by_ranges b choices ≡ inr n → n ≡ 8
-number_8 true choices n e = cc
-number_8 false choices n e = cc
+number_8 b choices n e = grind arith
 
 built_if : (b : Bool) (choices : Choices) → T b → by_ranges b choices ≡ inl (unticked choices)
 built_if true choices t = refl

@@ -1,5 +1,5 @@
 -- `air_box_c::air_box_build` meets its contract: where a box is built, its record is stored. Assumes nothing.
-use Rattle.std.proofs.Common.{◌≡◌, ℕ, Bool, true, false, Result, Ok, Err, sym, ap, ◌∙◌, if◌then◌else◌}
+use Rattle.std.proofs.Common.{arith, ◌≡◌, ℕ, Bool, true, false, Result, Ok, Err, sym, ap, ◌∙◌, if◌then◌else◌}
 use Rattle.box_choices.specs.declared.Choices.{Choices}
 use Rattle.air_box.specs.AirBox.{unticked, design_flows_within, build, built_number}
 use Rattle.air_box.specs.declared.AirBox.{AirBox}
@@ -14,11 +14,7 @@ use Rattle.air_box_c.proofs.air_box_build.Goals as goal
 -- a box that is built has had no tick
 built_is : (i : Choices) (box : AirBox) → build i ≡ Ok box → unticked i ≡ box
 unfolding build
-built_is i box = go (design_flows_within i)
-  where
-    go : (q : Bool) → ◌≡◌ {A = Result AirBox BuildRefusal} (if q then Ok (unticked i) else Err DesignFlowOutOfRange) (Ok box) → unticked i ≡ box
-    go true e = cc
-    go false e = cc
+built_is i box e = grind arith
 
 -- the record of a box that was built stands for it
 opened : (v : Result AirBox BuildRefusal) (c : AirBoxC) (box : AirBox) → v ≡ Ok box → open_box (built_record v c) ≡ box
