@@ -3,7 +3,6 @@ mod Values
 mod Casts
 mod Floors
 mod Negation
-mod AbsoluteValue
 mod LargerOfTwo
 mod Signs
 mod WholeTest
@@ -12,5 +11,6 @@ pub mod Meaning
 pub mod WholeSeconds
 pub mod Quotients
 pub mod Order
+pub mod Std
 pub mod Sums
 pub mod Integers

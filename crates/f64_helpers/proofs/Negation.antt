@@ -1,14 +1,8 @@
--- The other sign: rounding keeps its size, floor and ceiling change places, and what is below 0 comes above it. Assumes nothing.
-use Rattle.std.proofs.Common.{◌≡◌, ℕ, zero, suc, ◌+◌, ◌-◌, ◌*◌, ◌/◌, ◌%◌, ◌^◌, Bool, true, false, cond, not, T, ltb, sym, refl, ap, subst}
+-- The other sign: rounding keeps its size. Assumes nothing.
+use Rattle.std.proofs.Common.{◌≡◌, ℕ, zero, suc, ◌+◌, ◌-◌, ◌*◌, ◌/◌, ◌%◌, ◌^◌, Bool, true, false, cond, not, ltb, refl}
 use Prim.Native.Nat.{compare}
-use mathlib.Core.Bool.{not-not}
-use lib.Ieee.{Float, nan, inf, fin, Format, binary64, prec, emax, low, up, down, nearest, odd, units, round, neg, lt, eq, le, size}
-use Rattle.std.proofs.lemmas.Float.{lt_of_le_of_lt}
-use Rattle.f64_helpers.proofs.Signs.{lt_turned}
-use Rattle.f64_helpers.specs.F64.{zero as zeroᶠ}
-use Rattle.f64_helpers.specs.Helpers.{floor, ceil, quotient_down, quotient_up}
+use lib.Ieee.{inf, Format, prec, emax, low, nearest, odd, units, round, neg, size}
 
--- ---- through rounding
 neg_odd : (d : ℕ) (s : Bool) (q k l : ℕ) → neg (odd d s q k l) ≡ odd d (not s) q k l
 unfolding neg odd
 neg_odd d s zero k l = refl
@@ -29,23 +23,3 @@ neg_round f s a c =
     let k = size (n / c) - prec f in
     let u = c * 2 ^ k in
     neg_units f s (nearest (n / u) (compare (n % u * 2) u)) k
-
--- ---- floor and ceiling
-pub neg_floor : (x : Float) → neg (floor (neg x)) ≡ ceil x
-unfolding neg floor ceil
-neg_floor nan = refl
-neg_floor (inf s) = ap inf (not-not s)
-neg_floor (fin false m e) = neg_round binary64 true (quotient_up (m * up e) (down e)) 1
-neg_floor (fin true m e) = neg_round binary64 false (quotient_down (m * up e) (down e)) 1
-
-pub neg_ceil : (x : Float) → neg (ceil (neg x)) ≡ floor x
-unfolding neg floor ceil
-neg_ceil nan = refl
-neg_ceil (inf s) = ap inf (not-not s)
-neg_ceil (fin false m e) = neg_round binary64 true (quotient_down (m * up e) (down e)) 1
-neg_ceil (fin true m e) = neg_round binary64 false (quotient_up (m * up e) (down e)) 1
-
--- ---- about zero
-pub neg_above : (x : Float) → T (lt x zeroᶠ) → T (lt zeroᶠ (neg x))
-unfolding neg
-neg_above x p = lt_of_le_of_lt zeroᶠ (neg zeroᶠ) (neg x) (unfold le lt eq in tt) (subst T (sym (lt_turned zeroᶠ x)) p)

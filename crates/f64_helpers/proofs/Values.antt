@@ -1,8 +1,8 @@
 -- Which values an f64 holds: a whole number with no negative exponent is the rounded form of itself, a fraction has at most 53 bits, and only the two zeros have the size 0. Assumes nothing.
-use Rattle.std.proofs.Common.{◌≡◌, ◌-◌, le_of_suc-le-suc, lt_of_mul-lt-mul_right, lt_of_not-le, not-le_of_lt, add_comm, leb→le, mul_right_comm, ℕ, zero, suc, ◌+◌, ◌*◌, ◌%◌, ◌^◌, ◌<◌, ◌≤◌, Bool, true, false, not, ◌&&◌, ◌||◌, T, eqb, ltb, leb, ℤ, pos, negsuc, sym, refl, ap, ◌∙◌, subst, zero-lt-suc, mul_assoc, mul-lt-mul_of_pos_right, mul-pos, one-mul, zero-mul, mul-one, arith, eqb→eq, ltb→lt, nltb→le, pow_pos, pow-add}
+use Rattle.std.proofs.Common.{◌≡◌, ◌-◌, le_of_suc-le-suc, lt_of_mul-lt-mul_right, lt_of_not-le, not-le_of_lt, add_comm, leb→le, mul_right_comm, ℕ, zero, suc, ◌+◌, ◌*◌, ◌%◌, ◌^◌, ◌<◌, ◌≤◌, Bool, false, ◌&&◌, ◌||◌, T, eqb, ltb, leb, ℤ, pos, negsuc, sym, refl, ap, ◌∙◌, subst, zero-lt-suc, mul_assoc, mul-lt-mul_of_pos_right, mul-pos, one-mul, zero-mul, mul-one, arith, eqb→eq, ltb→lt, pow_pos, pow-add}
 use native.Mathlib.Nat.{pow-succ', sub-add_cancel}
 use mathlib.Core.Bool.{beq}
-use lib.Ieee.{Float, nan, inf, fin, Format, binary64, prec, emax, low, up, down, round, lt, eq, fits}
+use lib.Ieee.{Float, nan, inf, fin, Format, binary64, prec, emax, low, up, down, round, eq, fits}
 use lib.Ieee.Fits.{down_pos, and_l, and_r, round-fits, up_pos}
 use lib.Ieee.Exact.{HasValue, round_exact}
 use lib.Pow.{pow-lt}
@@ -77,18 +77,6 @@ zero_is s (suc m) e t z = absurd (no_size (suc m * up e) (mul-pos (zero-lt-suc m
 zero_is s zero (pos zero) t z = refl
 zero_is s zero (pos (suc k)) t z = absurd (one_is_two (2 ^ k) (2 ^ suc k) (pow-succ' 2 k) (pow_pos k) (sym (mul-one (2 ^ suc k)) ∙ eqb→eq (2 ^ suc k * 1) 1 t))
 zero_is s zero (negsuc k) t z = absurd (one_is_two (2 ^ k) (2 ^ suc k) (pow-succ' 2 k) (pow_pos k) (sym (one-mul (2 ^ suc k)) ∙ eqb→eq (1 * 2 ^ suc k) 1 t))
-
--- neither above 0 nor below it
-pub size_of_neither : (s : Bool) (m : ℕ) (e : ℤ) → T (not (lt zeroᶠ (fin s m e))) → T (not (lt (fin s m e) zeroᶠ)) → m * up e * 1 ≡ 0
-unfolding lt
-size_of_neither false m e p q = flat (m * up e * 1) (down e) (nltb→le (0 * 1 * down e) (m * up e * 1) p)
-  where
-    flat : (a b : ℕ) → a ≤ 0 * 1 * b → a ≡ 0
-    flat a b h = omega arith
-size_of_neither true m e p q = flat (m * up e * 1) (down e) (nltb→le 0 (m * up e * 1 + 0 * 1 * down e) q)
-  where
-    flat : (a b : ℕ) → a + 0 * 1 * b ≤ 0 → a ≡ 0
-    flat a b h = omega arith
 
 -- equal to 0
 pub zero_of_eq : (x : Float) → T (fits binary64 x) → T (eq x zeroᶠ) → x ≡ fin (negative x) 0 (pos 0)

@@ -1,4 +1,4 @@
-// The f64 functions that the published Rust takes from its standard library, for every f64: NaN, infinities, zeros of either sign, subnormals. Beside them its `x.max(0.0)` by one comparison (`max_zero`), two of its steps in one (`floor_as_i64`), the tests for a whole number and for a time, and the choice between two values.
+// The f64 functions that the published Rust takes from its standard library, for every f64: NaN, infinities, zeros of either sign, subnormals. `max` and `min` settle which of two zeros comes back, which std leaves open; the others are std's. Beside them its `x.max(0.0)` by one comparison (`max_zero`), two of its steps in one (`floor_as_i64`), the tests for a whole number and for a time, and the choice between two values.
 #![tactic(auto)]
 
 ghost use Rattle.std.specs.Prelude.{◌≡◌, T, if◌then◌else◌};
@@ -6,74 +6,28 @@ ghost use Rattle.f64_helpers.specs.F64.{◌<ᶠ◌, zero};
 ghost use Rattle.f64_helpers.specs.Helpers as Helpers;
 ghost use Rattle.f64_helpers.specs.Seconds as Seconds;
 
-// The floor of an x above 0. From 2^52 on every f64 is whole.
-#[tactic(auto, using(crate::proofs::Casts::above_minus_one))]
-fn floor_of_positive(x: f64) -> f64
-    requires { T (zero <ᶠ x) }
-    ensures { result ≡ Helpers.floor x }
-{
-    if x < 4503599627370496.0 {
-        std::num::nearest_u64_to_f64(std::num::truncating_f64_to_u64(x))
-    } else {
-        x
-    }
-}
-
-// The ceiling of an x above 0: one more than the whole part where that lies below x.
-#[tactic(auto, using(crate::proofs::Casts::above_minus_one))]
-fn ceil_of_positive(x: f64) -> f64
-    requires { T (zero <ᶠ x) }
-    ensures { result ≡ Helpers.ceil x }
-{
-    if x < 4503599627370496.0 {
-        let n: u64 = std::num::truncating_f64_to_u64(x);
-        let whole: f64 = std::num::nearest_u64_to_f64(n);
-        if whole < x {
-            std::num::nearest_u64_to_f64(n + 1)
-        } else {
-            whole
-        }
-    } else {
-        x
-    }
-}
-
-// `x.floor()`. The last case is a zero of either sign, or a NaN.
-#[tactic(auto, using(crate::proofs::Negation::neg_ceil))]
+// `x.floor()`.
+#[tactic(auto, using(crate::proofs::Std::floor_is))]
 pub fn floor(x: f64) -> f64
     ensures { result ≡ Helpers.floor x }
 {
-    if x > 0.0 {
-        floor_of_positive(x)
-    } else if x < 0.0 {
-        -ceil_of_positive(-x)
-    } else {
-        x
-    }
+    x.floor()
 }
 
 // `x.ceil()`.
-#[tactic(auto, using(crate::proofs::Negation::neg_floor))]
+#[tactic(auto, using(crate::proofs::Std::ceil_is))]
 pub fn ceil(x: f64) -> f64
     ensures { result ≡ Helpers.ceil x }
 {
-    -floor(-x)
+    x.ceil()
 }
 
 // `x.abs()`. A NaN comes back as it came, with its sign; the contract knows one NaN, and speaks of no bits of it.
-#[tactic(auto, using(crate::proofs::AbsoluteValue::abs_nan))]
+#[tactic(auto, using(crate::proofs::Std::abs_is))]
 pub fn abs(x: f64) -> f64
     ensures { result ≡ Helpers.abs x }
 {
-    if x > 0.0 {
-        x
-    } else if x < 0.0 {
-        -x
-    } else if x != x {
-        x
-    } else {
-        0.0
-    }
+    x.abs()
 }
 
 // `a.max(b)`. The sum of two zeros is -0.0 only if both are.
@@ -108,21 +62,10 @@ pub fn min(a: f64, b: f64) -> f64
 }
 
 // `x as i64`.
-#[tactic(auto, using(crate::proofs::Casts::signed_nan))]
 pub fn as_i64(x: f64) -> i64
     ensures { result ≡ Helpers.as_i64 x }
 {
-    if x < 9223372036854775808.0 {
-        if x >= -9223372036854775808.0 {
-            std::num::truncating_f64_to_i64(x)
-        } else {
-            i64::MIN
-        }
-    } else if x != x {
-        0
-    } else {
-        i64::MAX
-    }
+    std::num::saturating_f64_to_i64(x)
 }
 
 // `x.floor() as i64`. Between 0 and 2^52 the whole part is both, with no way back through a float.
