@@ -1,7 +1,6 @@
 -- The stages of `Stages.antt`, one after the other, are the tick of the box. Assumes nothing.
 use mathlib.Core.Path.{◌≡◌, refl, sym}
 use Rattle.std.specs.Prelude.{⊤, Result, Ok, Err}
-use Prim.Native.Nat.{ℕ, ◌<◌}
 use native.Mathlib.Omega.{arith}
 use lib.Dec.{T, eqb, eqb→eq}
 use Rattle.cooling_only_controller.proofs.ByPieces.{controller_by_pieces}

@@ -1,10 +1,9 @@
 -- `air_box_c::air_box_build` meets its contract: where a box is built, its record is stored. Assumes nothing.
-use Rattle.std.proofs.Common.{arith, ◌≡◌, ℕ, Bool, true, false, Result, Ok, Err, sym, ap, ◌∙◌, if◌then◌else◌}
+use Rattle.std.proofs.Common.{arith, ◌≡◌, ℕ, Result, Ok, sym, ap, ◌∙◌}
 use Rattle.box_choices.specs.declared.Choices.{Choices}
-use Rattle.air_box.specs.AirBox.{unticked, design_flows_within, build, built_number}
+use Rattle.air_box.specs.AirBox.{unticked, build, built_number}
 use Rattle.air_box.specs.declared.AirBox.{AirBox}
 use Rattle.air_box.specs.declared.BuildRefusal.{BuildRefusal}
-use Rattle.air_box.specs.declared.BuildRefusal.TheVariants.{DesignFlowOutOfRange}
 use Rattle.air_box_c.specs.Records.{open_box, shut_box, fresh_record, built_record}
 use Rattle.air_box_c.specs.Promises.{BuiltAt}
 use Rattle.air_box_c.specs.declared.records.AirBoxC.{AirBoxC}
