@@ -55,7 +55,7 @@ fn cannot_write(rt: HostRuntime, error: io::Error) {
 }
 
 // What std says of an error, without the number that stands behind the system's words, as ` (os error 28)`.
-// ticks has the same: no crate that both stand on has to do with errors.
+// ticks has the same: no crate that both stand on reads or writes.
 #[derive(Clone, Copy)]
 struct Reason(io::Error);
 
