@@ -79,7 +79,7 @@
    - No allocation, no global or static variable, no errno. A tick calls nothing out of the archive; air_box_fresh and
      air_box_build call memset, which a program without a C library has to bring. Calls may run at the same time on different boxes; one box is
      ticked by one thread at a time, and a signal handler does not tick a box that it may have interrupted.
-   - No loop, no recursion and no indirect jump, so the time of a call is bounded. A tick was seen to take some 730 bytes of stack, a building
+   - No loop, no recursion and no indirect jump, so the time of a call is bounded. A tick was seen to take some 750 bytes of stack, a building
      100; no proof bounds them.
 
    What a caller keeps to. A pointer points to a whole record of its type, and the box, the tick and the output do not lie over each other. A flag is 0 or 1,
