@@ -153,7 +153,7 @@ fn true_delay_running(
     }
 }
 
-// No caller: `SamplerState::sample` asks `sample_due` once, for what it gives and for what it stores.
+// It stands since the source has it, and has no caller: `SamplerState::sample` asks `sample_due` once, for what it gives and for what it stores.
 #[tactic(auto, using(f64_helpers::proofs::Integers::i64_kept), unfolding(crate::specs::CdlRecurrences::sampler_output))]
 pub fn sampler_output(
     t: f64,

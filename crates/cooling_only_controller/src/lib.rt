@@ -114,7 +114,7 @@ impl ControllerState {
     }
 }
 
-// The stages from the control loops to the damper, each fed by those before it. Their states come one by one: the controller has them among others, C in a record of its own.
+// The stages from the control loops to the damper, each fed by those before it. They take time, input and choices one by one, as each of them does; and their states one by one: the controller has them among others, C in a record of its own.
 #[tactic(auto, using(f64_helpers::proofs::Integers::i64_kept), unfolding(crate::specs::ControllerPieces::airflow_steps))]
 pub fn airflow_steps(
     t: f64,

@@ -1,4 +1,4 @@
-// Conditioning, ventilation and zone state, as in cooling_only_controller_conditioning.rs. A stage takes the tick's time, its input and the choices one by one, since `t` alone goes on to the blocks. In order: latch, time suppression, PI loop, control loops, setpoints, active airflow, zone states.
+// Conditioning, ventilation and zone state, as in cooling_only_controller_conditioning.rs. A stage takes what it needs of the tick's time, its input and the choices one by one, since `t` alone goes on to the blocks. In order: latch, time suppression, PI loop, control loops, setpoints, active airflow, zone states.
 #![tactic(auto)]
 
 ghost use Rattle.std.specs.Prelude.{◌≡◌};
@@ -329,6 +329,7 @@ impl ControlLoopsState {
     }
 }
 
+// The mode is a number, as C sends it.
 #[derive(Clone, Copy)]
 pub struct SetpointInput {
     pub window_status: bool,
