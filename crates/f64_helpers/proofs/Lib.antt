@@ -14,3 +14,5 @@ pub mod Order
 pub mod Std
 pub mod Sums
 pub mod Integers
+pub mod Monotone
+pub mod Intervals

@@ -31,7 +31,7 @@ le_turned x y h =
 abbrev pub AtMost : Bool → ℕ → ℕ → Bool → ℕ → ℕ → Type 0
 AtMost s a c t b d = plus s a * d + plus (not t) b * c ≤ plus t b * c + plus (not s) a * d
 
-zeros_level : (s t : Bool) → T (le (fin s 0 (pos 0)) (fin t 0 (pos 0)))
+pub zeros_level : (s t : Bool) → T (le (fin s 0 (pos 0)) (fin t 0 (pos 0)))
 unfolding le
 zeros_level true true = tt
 zeros_level true false = tt
@@ -91,13 +91,13 @@ same_value s m e (fin t n d) v = (
 
 -- ---- a sum, as the one fraction that is rounded
 -- z is ±a / c and ±b / c together, rounded once
-record Rounded (z : Float) (s : Bool) (a : ℕ) (t : Bool) (b c : ℕ) : Type 0 where
+pub record Rounded (z : Float) (s : Bool) (a : ℕ) (t : Bool) (b c : ℕ) : Type 0 where
   pub sign : Bool
   pub size : ℕ
   pub once : z ≡ round binary64 sign size c
   pub exact : plus sign size + (plus (not s) a + plus (not t) b) ≡ plus (not sign) size + (plus s a + plus t b)
 
-rounded : (s : Bool) (a : ℕ) (t : Bool) (b c : ℕ) → Rounded (sum binary64 s a t b c) s a t b c
+pub rounded : (s : Bool) (a : ℕ) (t : Bool) (b c : ℕ) → Rounded (sum binary64 s a t b c) s a t b c
 unfolding sum
 rounded true a true b c = record { sign = true; size = a + b; once = refl; exact = omega arith }
 rounded false a false b c = record { sign = false; size = a + b; once = refl; exact = omega arith }
@@ -147,11 +147,11 @@ module _ (s : Bool) (a g : ℕ) (t : Bool) (b k : ℕ) (G : 0 < g) (K : 0 < k) w
       (omega (arith, moved (plus (not s) a) (plus s a) (plus (not t) b * g) (plus t b * g) (plus (not together.sign) together.size) (plus together.sign together.size) g k (sym scaled) (mul-le-mul_right g h))))
 
 -- ---- adding what is not negative, and what is not positive, to an f64
-at_least_zero : (t : Bool) (n : ℕ) (d : ℤ) → T (le zeroᶠ (fin t n d)) → plus (not t) (n * up d) ≤ plus t (n * up d)
+pub at_least_zero : (t : Bool) (n : ℕ) (d : ℤ) → T (le zeroᶠ (fin t n d)) → plus (not t) (n * up d) ≤ plus t (n * up d)
 unfolding le
 at_least_zero t n d h = omega (arith, (fractions false t (0 * 1) (n * up d) 1 (down d)).0 h)
 
-at_most_zero : (t : Bool) (n : ℕ) (d : ℤ) → T (le (fin t n d) zeroᶠ) → plus t (n * up d) ≤ plus (not t) (n * up d)
+pub at_most_zero : (t : Bool) (n : ℕ) (d : ℤ) → T (le (fin t n d) zeroᶠ) → plus t (n * up d) ≤ plus (not t) (n * up d)
 unfolding le
 at_most_zero t n d h = omega (arith, (fractions t false (n * up d) (0 * 1) (down d) 1).0 h)
 
@@ -249,11 +249,11 @@ unfolding sub
 nan_difference x h n = nan_sum x (neg h) (⊎_elim inl (λ z. inr (subst T (sym (nan_turned h)) z)) n)
 
 -- ---- what lies below x and below x + h, above x and above x - h
-not_positive_turned : (h : Float) → T (le zeroᶠ h) → T (le (neg h) zeroᶠ)
+pub not_positive_turned : (h : Float) → T (le zeroᶠ h) → T (le (neg h) zeroᶠ)
 unfolding neg
 not_positive_turned h p = le_trans (neg h) (neg zeroᶠ) zeroᶠ (le_turned zeroᶠ h p) (zeros_level true false)
 
-not_negative_turned : (h : Float) → T (le h zeroᶠ) → T (le zeroᶠ (neg h))
+pub not_negative_turned : (h : Float) → T (le h zeroᶠ) → T (le zeroᶠ (neg h))
 unfolding neg
 not_negative_turned h p = le_trans zeroᶠ (neg zeroᶠ) (neg h) (zeros_level false true) (le_turned h zeroᶠ p)
 
