@@ -1,3 +1,4 @@
 pub mod DeadBandLaw
 pub mod MemoryDecided
 pub mod SampleGrid
+pub mod Ranges

@@ -181,7 +181,7 @@ at_most_or_least x k f g = elim (in_order x k) [
     finite_number (fin s m e) f n = absurd (unfold is_nan in n)
 
 -- ---- the helpers
-finite_number : (x : Float) → Finite x → T (not (is_nan x))
+pub finite_number : (x : Float) → Finite x → T (not (is_nan x))
 unfolding is_nan
 finite_number nan f = f
 finite_number (inf s) f = absurd f

@@ -1,0 +1,2 @@
+pub mod PiRange
+mod Pi
