@@ -1,2 +1,3 @@
 pub mod PiRange
 mod Pi
+pub mod Timing

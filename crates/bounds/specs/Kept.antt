@@ -4,6 +4,7 @@ use Rattle.std.specs.Prelude.{◌≡◌, ℕ, ◌≤◌, Bool, false, T, Float, 
 use Rattle.std.specs.Float.{binary64}
 use Rattle.std.specs.Float.Ieee.{fits, neg}
 use Rattle.f64_helpers.specs.F64.{◌⊕◌, ◌≤ᶠ◌, decimal, zero}
+use Rattle.f64_helpers.specs.Helpers.{negative}
 use Rattle.f64_helpers.specs.Seconds.{IsTime, seconds}
 use Rattle.f64_helpers.specs.Ranges.{Between, NotMinusZero}
 use Rattle.box_choices.specs.declared.Choices.{Choices}
@@ -47,12 +48,12 @@ pub record KeptUnitDelay (last : Option Float) (low high : Float) (s : UnitDelay
   pub held : Between low s.held high
   pub staged : Between low s.staged high
 
--- a true delay of this length: it runs on at most one step past its end
+-- a true delay of this length: its timer runs on at most one step past the end, and its sign bit is clear
 pub record KeptTrueDelay (last : Option Float) (delay : Float) (s : TrueDelayState) : Type 0 where
   pub previous_time : s.previous_time ≡ last
   pub timer : Between zero s.timer (delay ⊕ LONGEST_STEP)
   pub runs : s.held ≡ false → T (s.timer ≤ᶠ delay)
-  pub timer_sign : NotMinusZero s.timer
+  pub sign_clear : negative s.timer ≡ false
 
 -- ---- the integrators
 

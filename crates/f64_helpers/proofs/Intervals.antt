@@ -4,7 +4,7 @@ use Rattle.std.proofs.Common.{arith, ◌||◌, ◌≡◌, refl, ℕ, ◌*◌, Bo
 use lib.Ieee.{Float, nan, inf, fin, binary64, unlike, up, down, round, neg, mul, lt, eq, le, is_nan}
 use lib.Ieee.Fits.{and_l, and_r}
 use Rattle.std.proofs.lemmas.Float.{le_refl, le_trans, le_of_lt, lt_of_lt_of_le, le_of_not-lt}
-use Rattle.f64_helpers.specs.F64.{◌⊕◌, ◌⊖◌, ◌⊗◌, ◌⊘◌, ◌<ᶠ◌, ◌≤ᶠ◌, zero}
+use Rattle.f64_helpers.specs.F64.{◌⊕◌, ◌⊖◌, ◌⊗◌, ◌⊘◌, ◌<ᶠ◌, ◌≤ᶠ◌, ◌≥ᶠ◌, zero}
 use Rattle.f64_helpers.specs.Helpers.{abs, max, min, negative}
 use Rattle.f64_helpers.specs.Ranges.{Between, is_finite, Finite}
 use Rattle.f64_helpers.proofs.Order.{fractions, in_order, number_at_most}
@@ -240,3 +240,6 @@ min_in {x} {b} p c t =
     go false true z o u k = o
     go false false true o u k = u
     go false false false o u k = record { from_low = p.from_low; to_high = k tt }
+
+pub not_at_least : (x y : Float) → Finite x → Finite y → (x ≥ᶠ y) ≡ false → T (x ≤ᶠ y)
+not_at_least x y f g h = elim (at_most_or_least x y f g) [ inl k ↦ k | inr k ↦ absurd (subst T h k) ]

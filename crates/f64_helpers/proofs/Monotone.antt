@@ -114,7 +114,7 @@ finite_div s m e s' m' e' n d h =
 nothing : (s t : Bool) (a b c : ℕ) → b ≡ 0 → 0 < c → round binary64 (unlike s t) (a * b) c ≡ fin (unlike s t) 0 (pos 0)
 nothing s t a b c z C = ap (λ (n : ℕ). round binary64 (unlike s t) n c) (ap (λ (n : ℕ). a * n) z ∙ mul-zero a) ∙ round_zero (unlike s t) c C
 
-no_part : (n : ℕ) (d : ℤ) → T (le zeroᶠ (fin true n d)) → n * up d ≡ 0
+pub no_part : (n : ℕ) (d : ℤ) → T (le zeroᶠ (fin true n d)) → n * up d ≡ 0
 no_part n d h = omega (arith, at_least_zero true n d h)
 
 zero_products : (s : Bool) (m : ℕ) (e : ℤ) (s' : Bool) (m' : ℕ) (e' : ℤ) (n : ℕ) (d : ℤ) → n * up d ≡ 0
