@@ -1,3 +1,4 @@
 pub mod PiRange
 mod Pi
 pub mod Timing
+pub mod Accepted

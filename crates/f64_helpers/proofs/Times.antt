@@ -18,7 +18,7 @@ decimal_whole n l = round_to binary64 false n 1 n (zero-lt-suc 0) l (sym (mul-on
 pub at_most_whole : (x y : Float) (a b : ℕ) → Whole x a → Whole y b → T (x ≤ᶠ y) → a ≤ b
 at_most_whole x y a b v w p = leb→le a b (subst T (le_whole x y a b v w) p)
 
-at_most_by : (x y : Float) (a b : ℕ) → Whole x a → Whole y b → a ≤ b → T (x ≤ᶠ y)
+pub at_most_by : (x y : Float) (a b : ℕ) → Whole x a → Whole y b → a ≤ b → T (x ≤ᶠ y)
 at_most_by x y a b v w p = subst T (sym (le_whole x y a b v w)) (le→leb a b p)
 
 -- ---- what is-time means
