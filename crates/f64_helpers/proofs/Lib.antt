@@ -16,3 +16,4 @@ pub mod Sums
 pub mod Integers
 pub mod Monotone
 pub mod Intervals
+pub mod ExactDifferences
