@@ -55,19 +55,11 @@ pub record KeptTrueDelay (last : Option Float) (delay : Float) (s : TrueDelaySta
   pub runs : s.held ≡ false → T (s.timer ≤ᶠ delay)
   pub sign_clear : negative s.timer ≡ false
 
--- ---- the integrators
+-- ---- the loops' PI, of 64 either way
 
--- an f64 from -`end` to `end`, and not -0.0
-pub record KeptIntegrator (end integrator : Float) : Type 0 where
-  pub held : T (fits binary64 integrator)
-  pub range : Between (neg end) integrator end
-  pub sign : NotMinusZero integrator
-
--- a loop's PI resets where its enable rises
-pub record KeptLoopPi (last : Option Float) (enable : Bool) (s : LoopPiState) : Type 0 where
-  pub integrator : KeptIntegrator (decimal 64 1) s.integrator
+pub record KeptLoopPi (last : Option Float) (s : LoopPiState) : Type 0 where
+  pub integrator : Between (neg (decimal 64 1)) s.integrator (decimal 64 1)
   pub previous_time : s.previous_time ≡ last
-  pub previous_trigger : s.previous_trigger ≡ enable
 
 -- ---- the stages
 
@@ -80,13 +72,13 @@ pub record KeptTimeSuppression (last : Option Float) (s : TimeSuppressionState) 
   pub captured_zone : Between zero s.captured_zone HOTTEST
 
 pub record KeptControlLoops (last : Option Float) (s : ControlLoopsState) : Type 0 where
-  pub cooling_pi : KeptLoopPi last s.cooling_enable s.cooling_pi
-  pub heating_pi : KeptLoopPi last s.heating_enable s.heating_pi
+  pub cooling_pi : KeptLoopPi last s.cooling_pi
+  pub heating_pi : KeptLoopPi last s.heating_pi
   pub cooling_delay : KeptTrueDelay last (decimal 30 1) s.cooling_delay
   pub heating_delay : KeptTrueDelay last (decimal 30 1) s.heating_delay
 
 pub record KeptDamper (last : Option Float) (end : Float) (s : DamperState) : Type 0 where
-  pub integrator : KeptIntegrator end s.integrator
+  pub integrator : Between (neg end) s.integrator end
   pub previous_time : s.previous_time ≡ last
 
 pub record KeptSystemRequests (last : Option Float) (maximum : Float) (s : SystemRequestsState) : Type 0 where

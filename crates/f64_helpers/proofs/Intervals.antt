@@ -99,7 +99,7 @@ neg_mul (fin s m e) (fin t n d) f g =
     neg_round binary64 (unlike s t) (m * up e * (n * up d)) (down e * down d) ∙ ap (λ (u : Bool). round binary64 u (m * up e * (n * up d)) (down e * down d)) (turned_sign s t)
 
 -- a number that is not negative times a larger one, and one that is not positive
-times_larger : (b y d : Float) → Finite b → Finite y → Finite d → T (zero ≤ᶠ b) → T (y ≤ᶠ d) → T (b ⊗ y ≤ᶠ b ⊗ d)
+pub times_larger : (b y d : Float) → Finite b → Finite y → Finite d → T (zero ≤ᶠ b) → T (y ≤ᶠ d) → T (b ⊗ y ≤ᶠ b ⊗ d)
 times_larger b y d f g g' p h = subst T (λ i. le (mul_turned y b g f i) (mul_turned d b g' f i)) (mul_mono y d b g g' f p h)
 
 less_times : (a y d : Float) → Finite a → Finite y → Finite d → T (a ≤ᶠ zero) → T (y ≤ᶠ d) → T (a ⊗ d ≤ᶠ a ⊗ y)

@@ -17,3 +17,4 @@ pub mod Integers
 pub mod Monotone
 pub mod Intervals
 pub mod SignBits
+pub mod ExactDifferences

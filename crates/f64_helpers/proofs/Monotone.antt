@@ -93,11 +93,11 @@ module _ (s : Bool) (m : ℕ) (e : ℤ) (s' : Bool) (m' : ℕ) (e' : ℤ) (c d :
       (scaled (plus s m * up e) (plus (not s) m * up e) (plus s' m' * up e') (plus (not s') m' * up e') (down e) (down e') c d
       (simp plus_mul at ((fractions s s' (m * up e) (m' * up e') (down e) (down e')).0 h))))
 
-mul_is : (s : Bool) (m : ℕ) (e : ℤ) (n : ℕ) (d : ℤ) → mul binary64 (fin s m e) (fin false n d) ≡ round binary64 s (m * up e * (n * up d)) (down e * down d)
+pub mul_is : (s : Bool) (m : ℕ) (e : ℤ) (n : ℕ) (d : ℤ) → mul binary64 (fin s m e) (fin false n d) ≡ round binary64 s (m * up e * (n * up d)) (down e * down d)
 unfolding mul
 mul_is s m e n d = ap (λ (t : Bool). round binary64 t (m * up e * (n * up d)) (down e * down d)) (unlike_false s)
 
-div_is : (s : Bool) (m : ℕ) (e : ℤ) (n : ℕ) (d : ℤ) → div binary64 (fin s m e) (fin false (suc n) d) ≡ round binary64 s (m * up e * down d) (down e * (suc n * up d))
+pub div_is : (s : Bool) (m : ℕ) (e : ℤ) (n : ℕ) (d : ℤ) → div binary64 (fin s m e) (fin false (suc n) d) ≡ round binary64 s (m * up e * down d) (down e * (suc n * up d))
 unfolding div
 div_is s m e n d = rw (eqb-suc-zero n, unlike_false s) (ap (λ (c : ℕ). round binary64 s (m * up e * down d) c) (mul_comm (suc n * up d) (down e)))
 

@@ -30,24 +30,40 @@ below_top m u l d j top L e h =
     let left : m * u * l ≡ m * j * d = mul_assoc m u l ∙ ap (λ (n : ℕ). m * n) e ∙ sym (mul_assoc m j d) in
     lt_of_mul-lt-mul_right d (subst (λ (n : ℕ). n < top * l * d) left (subst (λ (n : ℕ). m * u * l < n) (mul_right_comm top d l) (mul-lt-mul_of_pos_right h L)))
 
-pub own_value : (f : Format) (s : Bool) (m : ℕ) (e : ℤ) → T (fits f (fin s m e)) → HasValue (round f s (m * up e) (down e)) s (m * up e) (down e)
+-- m * 2 ^ e, counted in the format's smallest value: digits * 2 ^ places, with no more digits than the format keeps
+pub record InPlaces (f : Format) (m : ℕ) (e : ℤ) : Type 0 where
+  pub digits : ℕ
+  pub places : ℕ
+  pub short : digits < 2 ^ prec f
+  pub under : digits * 2 ^ places < 2 ^ (low f + suc (emax f))
+  pub in_units : m * up e * 2 ^ low f ≡ digits * 2 ^ places * down e
+
+pub in_places : (f : Format) (s : Bool) (m : ℕ) (e : ℤ) → T (fits f (fin s m e)) → InPlaces f m e
 unfolding fits
-own_value f s zero e t =
-    round_exact f s (0 * up e) (down e) 0 0 (down_pos e) (pow_pos (prec f)) (pow_pos (low f + suc (emax f))) (nothing (up e) (2 ^ low f) (down e))
+in_places f s zero e t =
+    record { digits = 0; places = 0; short = pow_pos (prec f); under = pow_pos (low f + suc (emax f)); in_units = nothing (up e) (2 ^ low f) (down e) }
   where
     nothing : (u l d : ℕ) → 0 * u * l ≡ 0 * d
     nothing u l d = ap (λ (n : ℕ). n * l) (zero-mul u) ∙ zero-mul l ∙ sym (zero-mul d)
-own_value f s (suc m) e t =
+in_places f s (suc m) e t =
     let odd_bit : Bool = eqb (suc m % 2) 1 in
     let short : Bool = ltb (suc m) (2 ^ prec f) in
     let not_fine : Bool = leb (down e) (2 ^ low f) in
     let not_large : Bool = ltb (suc m * up e) (2 ^ suc (emax f) * down e) in
     let p = places_of f e (leb→le (down e) (2 ^ low f) (and_r (odd_bit && short) not_fine (and_l (odd_bit && short && not_fine) not_large t))) in
-    round_exact f s (suc m * up e) (down e) (suc m) p.places (down_pos e)
-    (ltb→lt (suc m) (2 ^ prec f) (and_r odd_bit short (and_l (odd_bit && short) not_fine (and_l (odd_bit && short && not_fine) not_large t))))
-    (subst (λ (n : ℕ). suc m * 2 ^ p.places < n) (sym (pow-add 2 (suc (emax f)) (low f)) ∙ ap (λ (n : ℕ). 2 ^ n) (add_comm (suc (emax f)) (low f)))
-    (below_top (suc m) (up e) (2 ^ low f) (down e) (2 ^ p.places) (2 ^ suc (emax f)) (pow_pos (low f)) p.in_units (ltb→lt (suc m * up e) (2 ^ suc (emax f) * down e) (and_r (odd_bit && short && not_fine) not_large t))))
-    (mul_assoc (suc m) (up e) (2 ^ low f) ∙ ap (λ (n : ℕ). suc m * n) p.in_units ∙ sym (mul_assoc (suc m) (2 ^ p.places) (down e)))
+    record {
+      digits = suc m;
+      places = p.places;
+      short = ltb→lt (suc m) (2 ^ prec f) (and_r odd_bit short (and_l (odd_bit && short) not_fine (and_l (odd_bit && short && not_fine) not_large t)));
+      under =
+          subst (λ (n : ℕ). suc m * 2 ^ p.places < n) (sym (pow-add 2 (suc (emax f)) (low f)) ∙ ap (λ (n : ℕ). 2 ^ n) (add_comm (suc (emax f)) (low f)))
+          (below_top (suc m) (up e) (2 ^ low f) (down e) (2 ^ p.places) (2 ^ suc (emax f)) (pow_pos (low f)) p.in_units (ltb→lt (suc m * up e) (2 ^ suc (emax f) * down e) (and_r (odd_bit && short && not_fine) not_large t)));
+      in_units = mul_assoc (suc m) (up e) (2 ^ low f) ∙ ap (λ (n : ℕ). suc m * n) p.in_units ∙ sym (mul_assoc (suc m) (2 ^ p.places) (down e));
+    }
+
+-- it is the rounded form of itself
+pub own_value : (f : Format) (s : Bool) (m : ℕ) (e : ℤ) → T (fits f (fin s m e)) → HasValue (round f s (m * up e) (down e)) s (m * up e) (down e)
+own_value f s m e t = let p = in_places f s m e t in round_exact f s (m * up e) (down e) p.digits p.places (down_pos e) p.short p.under p.in_units
 
 -- ---- a value with no negative exponent is the rounded form of its own whole number
 pub exact : (f : Format) (s : Bool) (m k : ℕ) → T (fits f (fin s m (pos k))) → round f s (m * 2 ^ k) 1 ≡ fin s m (pos k)
