@@ -1,4 +1,5 @@
 pub mod PiRange
 mod Pi
 pub mod Timing
+pub mod Loops
 pub mod Accepted

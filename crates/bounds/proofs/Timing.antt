@@ -101,7 +101,7 @@ module _ {delay : Float} (l : Length delay) where
 pub fresh_kept : {delay : Float} → Length delay → KeptTrueDelay None delay fresh_true_delay
 fresh_kept l = let z = at_zero l false in record { previous_time = refl; timer = z.0; runs = z.1; sign_clear = refl }
 
-lengths : Length (decimal 30 1) × Length (decimal 60 1) × Length (decimal 120 1) × Length (decimal 300 1) × Length (decimal 600 1) × Length (decimal 1800 1)
+pub lengths : Length (decimal 30 1) × Length (decimal 60 1) × Length (decimal 120 1) × Length (decimal 300 1) × Length (decimal 600 1) × Length (decimal 1800 1)
 unfolding round add lt eq le max is_nan
 lengths = (
   record { finite = tt; sum_finite = tt; from_zero = tt; larger = refl; sum_ends = tt; within_sum = tt; sign = refl },
