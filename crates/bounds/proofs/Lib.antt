@@ -2,4 +2,9 @@ pub mod PiRange
 mod Pi
 pub mod Timing
 pub mod Loops
+pub mod Co2Line
+pub mod Flows
+pub mod Damper
+pub mod Suppression
+pub mod Requests
 pub mod Accepted

@@ -153,12 +153,12 @@ mul_turned (fin s m e) (fin t n d) f g =
     ∙ ap (λ (c : ℕ). round binary64 (unlike t s) (n * up d * (m * up e)) c) (mul_comm (down e) (down d))
 
 -- what is above 0 has its sign bit clear, and a size
-record Above (v : Float) : Type 0 where
+pub record Above (v : Float) : Type 0 where
   pub size : ℕ
   pub power : ℤ
   pub is : v ≡ fin false (suc size) power
 
-above_zero : (v : Float) → Finite v → T (lt zeroᶠ v) → Above v
+pub above_zero : (v : Float) → Finite v → T (lt zeroᶠ v) → Above v
 unfolding lt
 above_zero nan f h = absurd f
 above_zero (inf s) f h = absurd f

@@ -1,0 +1,114 @@
+-- The damper keeps its ranges over an accepted tick: the airflow setpoint lies from 0 to the cooling maximum, and the integrator in its range, which the box's size decides. Assumes nothing.
+use Rattle.std.proofs.Common.{◌≡◌, refl, ℕ, zero as none, suc, ◌+◌, ◌*◌, ◌==◌, Bool, true, false, not, ◌&&◌, T, sym, ap, subst, ℤ, pos, negsuc, if◌then◌else◌, Some, None, Option, eqb→eq, mul_comm, one-mul, mul-one, mul-pos, zero-lt-suc, ◌∙◌}
+use Rattle.std.specs.Int.Signed.{le_z}
+use lib.Ieee.{Float, nan, inf, fin, binary64, up, down, round, neg, add, sub, mul, div, lt, eq, le, fits}
+use lib.Ieee.Fits.{up_pos, down_pos, and_l, and_r}
+use lib.Ieee.Scale.{round_same}
+use Rattle.std.proofs.lemmas.Float.{le_refl, le_right, le_trans, lt_of_lt_of_le}
+use Rattle.f64_helpers.specs.F64.{◌⊕◌, ◌⊖◌, ◌⊗◌, ◌⊘◌, ◌<ᶠ◌, ◌≤ᶠ◌, decimal, zero}
+use Rattle.f64_helpers.specs.Integers.{◌==ᶻ◌}
+use Rattle.f64_helpers.specs.Ranges.{Between, is_finite, Finite}
+use Rattle.f64_helpers.proofs.Intervals.{finite_between, wider, inside, add_in, sub_in, mul_in_turned, div_in, neg_in, if_in}
+use Rattle.f64_helpers.proofs.Monotone.{div_mono, div_is, above_zero}
+use Rattle.box_choices.specs.declared.Choices.{Choices}
+use Rattle.cdl_recurrences.specs.CdlRecurrences.{buildings_line, clamp}
+use Rattle.cdl_recurrences.proofs.Ranges.{clamp_unit}
+use Rattle.cooling_only_controller_conditioning.specs.Conditioning.{active_airflow}
+use Rattle.cooling_only_controller_airflow.specs.Airflow.{damper}
+use Rattle.cooling_only_controller_airflow.specs.declared.DamperInput.{DamperInput}
+use Rattle.cooling_only_controller_airflow.specs.declared.DamperState.{DamperState}
+use Rattle.bounds.specs.Limits.{LONGEST_STEP, HIGHEST_FLOW, DAMPER_GAIN, DAMPER_INTEGRAL_TIME, next_integrator}
+use Rattle.bounds.specs.Kept.{KeptDamper}
+use Rattle.bounds.proofs.Pi.{damper_next, any_damper_next}
+use Rattle.bounds.proofs.Timing.{Accepted}
+use Rattle.bounds.proofs.Loops.{dt_in}
+use Rattle.bounds.proofs.Flows.{FlowsIn, Flow, no_flow, chosen_flow, flow_line, at_minimum, at_maximum, maximum_finite}
+
+-- ---- a number over itself
+
+over_itself : (n : ℕ) (d : ℤ) → div binary64 (fin false (suc n) d) (fin false (suc n) d) ≡ decimal 1 1
+over_itself n d =
+    div_is false (suc n) d n d
+    ∙ round_same binary64 false (suc n * up d * down d) (down d * (suc n * up d)) 1 1 (mul-pos (down_pos d) (mul-pos (zero-lt-suc n) (up_pos d))) (zero-lt-suc none) (mul-one (suc n * up d * down d) ∙ mul_comm (suc n * up d) (down d) ∙ sym (one-mul (down d * (suc n * up d))))
+
+self_quotient : (x : Float) → Finite x → T (zero <ᶠ x) → x ⊘ x ≡ decimal 1 1
+self_quotient x f h = let a = above_zero x f h in subst (λ (x : Float). x ⊘ x ≡ decimal 1 1) (sym a.is) (over_itself a.size a.power)
+
+-- ---- what a box's size decides: the cooling maximum is at least `smallest`
+
+pub record Size (smallest error end : Float) : Type 0 where
+  pub error_in : {setpoint flow maximum : Float} → Between zero setpoint (decimal 1 1) → Between (neg HIGHEST_FLOW) flow HIGHEST_FLOW → Between smallest maximum (decimal 10 1)
+      → Between (neg error) (setpoint ⊖ flow ⊘ maximum) error
+  pub next_in : {integrator e dt : Float} → Between (neg error) e error → Between (neg end) integrator end → Between zero dt LONGEST_STEP
+      → Between (neg end) (next_integrator DAMPER_GAIN DAMPER_INTEGRAL_TIME integrator e dt) end
+  pub reset_in : {e : Float} → Between (neg error) e error → Between (neg end) (decimal 1 100 ⊖ DAMPER_GAIN ⊗ e) end
+  pub unlimited_finite : {integrator e : Float} → Between (neg error) e error → Between (neg end) integrator end → Finite (DAMPER_GAIN ⊗ e ⊕ integrator)
+  pub end_from_zero : Between (neg end) zero end
+
+usual_error : {setpoint flow maximum : Float} → Between zero setpoint (decimal 1 1) → Between (neg HIGHEST_FLOW) flow HIGHEST_FLOW → Between (decimal 15 10) maximum (decimal 10 1)
+    → Between (neg (decimal 8 1)) (setpoint ⊖ flow ⊘ maximum) (decimal 8 1)
+unfolding round neg add sub div le lt eq
+usual_error s f m = let q : Between (neg (decimal 7 1)) _ (decimal 7 1) = div_in f m tt in sub_in s q tt
+
+gain_in : Between zero DAMPER_GAIN DAMPER_GAIN
+unfolding round le lt eq
+gain_in = record { from_low = tt; to_high = tt }
+
+usual_reset : {e : Float} → Between (neg (decimal 8 1)) e (decimal 8 1) → Between (neg (decimal 16 1)) (decimal 1 100 ⊖ DAMPER_GAIN ⊗ e) (decimal 16 1)
+unfolding round neg add sub mul le lt eq
+usual_reset e =
+    let p : Between (neg (decimal 4 1)) _ (decimal 4 1) = mul_in_turned e gain_in tt in
+    let h : Between (decimal 1 100) (decimal 1 100) (decimal 1 100) = record { from_low = tt; to_high = tt } in
+    sub_in h p tt
+
+usual_unlimited : {integrator e : Float} → Between (neg (decimal 8 1)) e (decimal 8 1) → Between (neg (decimal 16 1)) integrator (decimal 16 1) → Finite (DAMPER_GAIN ⊗ e ⊕ integrator)
+unfolding round neg add sub mul le lt eq
+usual_unlimited {integrator} {e} b i =
+    let p : Between (neg (decimal 4 1)) (DAMPER_GAIN ⊗ e) (decimal 4 1) = mul_in_turned b gain_in tt in
+    let u : Between (neg (decimal 20 1)) (DAMPER_GAIN ⊗ e ⊕ integrator) (decimal 20 1) = add_in p i tt in
+    finite_between tt tt u
+
+end_around : {end : Float} → T ((neg end ≤ᶠ zero) && (zero ≤ᶠ end)) → Between (neg end) zero end
+end_around {end} h = record { from_low = and_l (neg end ≤ᶠ zero) (zero ≤ᶠ end) h; to_high = and_r (neg end ≤ᶠ zero) (zero ≤ᶠ end) h }
+
+pub usual_size : Size (decimal 15 10) (decimal 8 1) (decimal 16 1)
+unfolding round neg le lt eq
+usual_size = record { error_in = usual_error; next_in = damper_next; reset_in = usual_reset; unlimited_finite = usual_unlimited; end_from_zero = end_around tt }
+
+any_error : {setpoint flow maximum : Float} → Between zero setpoint (decimal 1 1) → Between (neg HIGHEST_FLOW) flow HIGHEST_FLOW → Between (decimal 1 10) maximum (decimal 10 1)
+    → Between (neg (decimal 101 1)) (setpoint ⊖ flow ⊘ maximum) (decimal 101 1)
+unfolding round neg add sub div le lt eq
+any_error s f m = let q : Between (neg (decimal 100 1)) _ (decimal 100 1) = div_in f m tt in sub_in s q tt
+
+any_reset : {e : Float} → Between (neg (decimal 101 1)) e (decimal 101 1) → Between (neg (decimal 512 1)) (decimal 1 100 ⊖ DAMPER_GAIN ⊗ e) (decimal 512 1)
+unfolding round neg add sub mul le lt eq
+any_reset e =
+    let p : Between (neg (decimal 51 1)) _ (decimal 51 1) = mul_in_turned e gain_in tt in
+    let h : Between (decimal 1 100) (decimal 1 100) (decimal 1 100) = record { from_low = tt; to_high = tt } in
+    sub_in h p tt
+
+any_unlimited : {integrator e : Float} → Between (neg (decimal 101 1)) e (decimal 101 1) → Between (neg (decimal 512 1)) integrator (decimal 512 1) → Finite (DAMPER_GAIN ⊗ e ⊕ integrator)
+unfolding round neg add sub mul le lt eq
+any_unlimited {integrator} {e} b i =
+    let p : Between (neg (decimal 51 1)) (DAMPER_GAIN ⊗ e) (decimal 51 1) = mul_in_turned b gain_in tt in
+    let u : Between (neg (decimal 600 1)) (DAMPER_GAIN ⊗ e ⊕ integrator) (decimal 600 1) = add_in p i tt in
+    finite_between tt tt u
+
+pub any_size : Size (decimal 1 10) (decimal 101 1) (decimal 512 1)
+unfolding round neg le lt eq
+any_size = record { error_in = any_error; next_in = any_damper_next; reset_in = any_reset; unlimited_finite = any_unlimited; end_from_zero = end_around tt }
+
+-- ---- the active airflow: its minimum is at most its maximum
+
+module _ (choices : Choices) (f : FlowsIn choices) {occupied_minimum : Float} (o : Flow choices.design_cooling_maximum_flow occupied_minimum) where
+  active_in : (mode : ℤ) → Flow choices.design_cooling_maximum_flow (active_airflow mode occupied_minimum choices).minimum
+  unfolding active_airflow
+  active_in mode = chosen_flow choices f (mode ==ᶻ 1) occupied_minimum zero o (no_flow choices f)
+
+  active_maximum_in : (mode : ℤ) → Flow choices.design_cooling_maximum_flow (active_airflow mode occupied_minimum choices).cooling_maximum
+  unfolding active_airflow
+  active_maximum_in mode = chosen_flow choices f (le_z (pos 1) mode && le_z mode (pos 3)) choices.design_cooling_maximum_flow zero (at_maximum choices f) (no_flow choices f)
+
+  active_order : (mode : ℤ) → T ((active_airflow mode occupied_minimum choices).minimum ≤ᶠ (active_airflow mode occupied_minimum choices).cooling_maximum)
+  unfolding active_airflow
+  active_order mode = ?
