@@ -11,12 +11,14 @@ use Rattle.f64_helpers.specs.Ranges.{Between, is_finite, Finite}
 use Rattle.f64_helpers.proofs.Intervals.{finite_between, wider, inside, add_in, sub_in, mul_in_turned, div_in, neg_in, if_in}
 use Rattle.f64_helpers.proofs.Monotone.{div_mono, div_is, above_zero}
 use Rattle.box_choices.specs.declared.Choices.{Choices}
-use Rattle.cdl_recurrences.specs.CdlRecurrences.{buildings_line, clamp}
+use Rattle.cdl_recurrences.specs.CdlRecurrences.{buildings_line, clamp, greater_hysteretic}
 use Rattle.cdl_recurrences.proofs.Ranges.{clamp_unit}
 use Rattle.cooling_only_controller_conditioning.specs.Conditioning.{active_airflow}
-use Rattle.cooling_only_controller_airflow.specs.Airflow.{damper}
+use Rattle.cooling_only_controller_airflow.specs.Airflow.{damper, TEMPERATURE_HYSTERESIS}
 use Rattle.cooling_only_controller_airflow.specs.declared.DamperInput.{DamperInput}
 use Rattle.cooling_only_controller_airflow.specs.declared.DamperState.{DamperState}
+use Rattle.cooling_only_controller_airflow.specs.declared.DamperOutput.{DamperOutput}
+use Rattle.cooling_only_controller_timing.specs.declared.Step.{Step}
 use Rattle.bounds.specs.Limits.{LONGEST_STEP, HIGHEST_FLOW, DAMPER_GAIN, DAMPER_INTEGRAL_TIME, next_integrator}
 use Rattle.bounds.specs.Kept.{KeptDamper}
 use Rattle.bounds.proofs.Pi.{damper_next, any_damper_next}
@@ -100,6 +102,10 @@ any_size = record { error_in = any_error; next_in = any_damper_next; reset_in = 
 
 -- ---- the active airflow: its minimum is at most its maximum
 
+mode_one : (mode : ℤ) → T (mode ==ᶻ 1) → T (le_z (pos 1) mode && le_z mode (pos 3))
+mode_one (pos n) h = subst (λ (n : ℕ). T (le_z (pos 1) (pos n) && le_z (pos n) (pos 3))) (sym (eqb→eq n 1 h)) tt
+mode_one (negsuc n) h = absurd h
+
 module _ (choices : Choices) (f : FlowsIn choices) {occupied_minimum : Float} (o : Flow choices.design_cooling_maximum_flow occupied_minimum) where
   active_in : (mode : ℤ) → Flow choices.design_cooling_maximum_flow (active_airflow mode occupied_minimum choices).minimum
   unfolding active_airflow
@@ -111,4 +117,87 @@ module _ (choices : Choices) (f : FlowsIn choices) {occupied_minimum : Float} (o
 
   active_order : (mode : ℤ) → T ((active_airflow mode occupied_minimum choices).minimum ≤ᶠ (active_airflow mode occupied_minimum choices).cooling_maximum)
   unfolding active_airflow
-  active_order mode = ?
+  active_order mode = go (mode ==ᶻ 1) (le_z (pos 1) mode && le_z mode (pos 3)) (mode_one mode)
+    where
+      go : (p q : Bool) → (T p → T q) → T (if p then occupied_minimum else zero ≤ᶠ if q then choices.design_cooling_maximum_flow else zero)
+      go true true h = o.range.to_high
+      go true false h = absurd (h tt)
+      go false true h = (no_flow choices f).range.to_high
+      go false false h = (no_flow choices f).range.from_low
+
+-- ---- the stage
+
+module _ (choices : Choices) (f : FlowsIn choices) (s : DamperState) (input : DamperInput)
+    (minimum : Flow choices.design_cooling_maximum_flow input.active_minimum_flow) (maximum : Flow choices.design_cooling_maximum_flow input.active_cooling_maximum_flow)
+    (order : T (input.active_minimum_flow ≤ᶠ input.active_cooling_maximum_flow)) (signal : Between zero input.cooling_loop (decimal 1 1)) (flow : Between (neg HIGHEST_FLOW) input.discharge_airflow HIGHEST_FLOW)
+    {last : Option Float} {t : Float} (a : Accepted last t) {smallest error end : Float} (z : Size smallest error end) (large : Between smallest choices.design_cooling_maximum_flow (decimal 10 1)) (k : KeptDamper last end s) where
+  abbrev step : Step DamperState DamperOutput
+  step = damper s t input choices
+
+  signal_finite : Finite input.cooling_loop
+  unfolding round
+  signal_finite = finite_between tt tt signal
+
+  -- the setpoint before the override
+  mapped_in : Flow choices.design_cooling_maximum_flow (buildings_line zero input.active_minimum_flow (decimal 1 1) input.active_cooling_maximum_flow input.cooling_loop)
+  mapped_in = flow_line choices f minimum maximum input.cooling_loop signal_finite order
+
+  pub airflow_setpoint_in : Flow choices.design_cooling_maximum_flow step.output.airflow_setpoint
+  unfolding damper
+  airflow_setpoint_in =
+      let M = choices.design_cooling_maximum_flow in
+      let warm = greater_hysteretic input.supply_air_temperature input.zone_temperature TEMPERATURE_HYSTERESIS s.supply_warm in
+      let mapped = buildings_line zero input.active_minimum_flow (decimal 1 1) input.active_cooling_maximum_flow input.cooling_loop in
+      let active : Flow M (if warm then input.active_minimum_flow else mapped) = chosen_flow choices f warm input.active_minimum_flow mapped minimum mapped_in in
+      let base : Flow M (if input.zone_state ==ᶻ 3 then if warm then input.active_minimum_flow else mapped else input.active_minimum_flow) = chosen_flow choices f (input.zone_state ==ᶻ 3) _ input.active_minimum_flow active minimum in
+      let third = chosen_flow choices f (input.airflow_override_index ==ᶻ 3) choices.design_minimum_flow _ (at_minimum choices f) base in
+      let second = chosen_flow choices f (input.airflow_override_index ==ᶻ 2) M _ (at_maximum choices f) third in
+      chosen_flow choices f (input.airflow_override_index ==ᶻ 1) zero _ (no_flow choices f) second
+
+  -- over the maximum
+  quotient_from_zero : {x : Float} → Between zero x choices.design_cooling_maximum_flow → Between zero (x ⊘ choices.design_cooling_maximum_flow) (decimal 100 1)
+  unfolding round div le lt eq
+  quotient_from_zero {x} b =
+      let wide : Between zero x (decimal 10 1) = record { from_low = b.from_low; to_high = le_trans x choices.design_cooling_maximum_flow (decimal 10 1) b.to_high f.maximum.to_high } in
+      div_in wide f.maximum tt
+
+  maximum_above_zero : T (zero <ᶠ choices.design_cooling_maximum_flow)
+  unfolding round lt
+  maximum_above_zero = lt_of_lt_of_le zero (decimal 1 10) choices.design_cooling_maximum_flow tt f.maximum.from_low
+
+  normalized_in : Between zero (step.output.airflow_setpoint ⊘ choices.design_cooling_maximum_flow) (decimal 1 1)
+  normalized_in =
+      let M = choices.design_cooling_maximum_flow in
+      let b = airflow_setpoint_in.range in
+      let F = maximum_finite choices f in
+      record {
+        from_low = (quotient_from_zero b).from_low;
+        to_high = subst (λ (z : Float). T (step.output.airflow_setpoint ⊘ M ≤ᶠ z)) (self_quotient M F maximum_above_zero)
+            (div_mono step.output.airflow_setpoint M M (finite_between tt F b) F F maximum_above_zero b.to_high);
+      }
+
+  -- ---- the PI
+  abbrev error_of : Float
+  error_of = step.output.airflow_setpoint ⊘ choices.design_cooling_maximum_flow ⊖ input.discharge_airflow ⊘ choices.design_cooling_maximum_flow
+
+  error_range : Between (neg error) error_of error
+  error_range = z.error_in normalized_in flow large
+
+  pid_in : Between zero (clamp (DAMPER_GAIN ⊗ error_of ⊕ s.integrator) zero (decimal 1 1)) (decimal 1 1)
+  pid_in = clamp_unit (DAMPER_GAIN ⊗ error_of ⊕ s.integrator) (z.unlimited_finite error_range k.integrator)
+
+  command_zero : Between zero zero (decimal 1 1)
+  unfolding round le lt eq
+  command_zero = record { from_low = tt; to_high = tt }
+
+  command_one : Between zero (decimal 1 1) (decimal 1 1)
+  unfolding round le lt eq
+  command_one = record { from_low = tt; to_high = tt }
+
+  pub damper_command_in : Between zero step.output.damper_command (decimal 1 1)
+  unfolding damper
+  damper_command_in = if_in _ zero _ command_zero (if_in _ (decimal 1 1) _ command_one pid_in)
+
+  pub kept_damper : KeptDamper (Some t) end step.state
+  unfolding damper next_integrator
+  kept_damper = record { integrator = if_in (input.supply_fan_status && not s.previous_fan) _ _ (z.reset_in error_range) (z.next_in error_range k.integrator (dt_in a s.previous_time k.previous_time)); previous_time = refl }
