@@ -1,22 +1,22 @@
 -- What the seven questions leave of an accepted tick: its readings lie in their ranges, and its time after the last one at most the longest step. Assumes nothing.
-use Rattle.std.proofs.Common.{◌≡◌, refl, ℕ, ◌≤◌, Bool, true, false, not, ◌&&◌, T, sym, subst, Some, None, Option, lit≤, zero-le}
-use lib.Ieee.{Float, binary64, round, neg, add, sub, lt, eq, le}
+use Rattle.std.proofs.Common.{◌≡◌, Bool, true, false, ◌&&◌, T, subst, Some, None, Option, lit≤, zero-le}
+use lib.Ieee.{Float, round, neg, add, sub, lt, eq, le}
 use lib.Ieee.Fits.{and_l, and_r}
 use Rattle.f64_helpers.specs.F64.{◌⊖◌, ◌≤ᶠ◌, ◌≥ᶠ◌, decimal, zero}
 use Rattle.f64_helpers.specs.Helpers.{max}
-use Rattle.f64_helpers.specs.Seconds.{Whole, IsTime, seconds}
-use Rattle.f64_helpers.specs.Ranges.{Between, is_finite, Finite}
+use Rattle.f64_helpers.specs.Seconds.{IsTime, seconds}
+use Rattle.f64_helpers.specs.Ranges.{Between}
 use Rattle.f64_helpers.proofs.Intervals.{wider, inside, sub_in, max_zero_in}
 use Rattle.f64_helpers.proofs.WholeSeconds.{zero_whole}
 use Rattle.f64_helpers.proofs.Times.{at_most_whole, at_most_by, decimal_whole}
 use Rattle.cooling_only_controller.specs.declared.ControllerInput.{ControllerInput}
-use Rattle.air_box.specs.AirBox.{yes, within, soon_after, at_or_after}
+use Rattle.air_box.specs.AirBox.{within, soon_after}
 use Rattle.air_box.specs.Demand1.{AllYes}
 use Rattle.air_box.specs.declared.Tick.{Tick}
 use Rattle.air_box.specs.declared.Refusal.TheVariants.{BeforeLast, TooLongAfterLast, TemperatureOutOfRange, Co2OutOfRange, AirflowOutOfRange}
 use Rattle.air_box.proofs.Demands.{accepted_time}
 use Rattle.bounds.specs.Limits.{LONGEST_STEP, COLDEST, HOTTEST, HIGHEST_CO2, HIGHEST_FLOW}
-use Rattle.bounds.specs.Kept.{TimeIfPresent, last_seconds}
+use Rattle.bounds.specs.Kept.{TimeIfPresent}
 use Rattle.bounds.proofs.Timing.{Accepted}
 
 pub record Readings (input : ControllerInput) : Type 0 where

@@ -1,14 +1,14 @@
 -- The damper keeps its ranges over an accepted tick: the airflow setpoint lies from 0 to the cooling maximum, and the integrator in its range, which the box's size decides. Assumes nothing.
-use Rattle.std.proofs.Common.{◌≡◌, refl, ℕ, zero as none, suc, ◌+◌, ◌*◌, ◌==◌, Bool, true, false, not, ◌&&◌, T, sym, ap, subst, ℤ, pos, negsuc, if◌then◌else◌, Some, None, Option, eqb→eq, mul_comm, one-mul, mul-one, mul-pos, zero-lt-suc, ◌∙◌}
+use Rattle.std.proofs.Common.{◌≡◌, refl, ℕ, zero as none, suc, ◌*◌, Bool, true, false, not, ◌&&◌, T, sym, subst, ℤ, pos, negsuc, if◌then◌else◌, Some, Option, eqb→eq, mul_comm, one-mul, mul-one, mul-pos, zero-lt-suc, ◌∙◌}
 use Rattle.std.specs.Int.Signed.{le_z}
-use lib.Ieee.{Float, nan, inf, fin, binary64, up, down, round, neg, add, sub, mul, div, lt, eq, le, fits}
+use lib.Ieee.{Float, fin, binary64, up, down, round, neg, add, sub, mul, div, lt, eq, le}
 use lib.Ieee.Fits.{up_pos, down_pos, and_l, and_r}
 use lib.Ieee.Scale.{round_same}
-use Rattle.std.proofs.lemmas.Float.{le_refl, le_right, le_trans, lt_of_lt_of_le}
+use Rattle.std.proofs.lemmas.Float.{le_trans, lt_of_lt_of_le}
 use Rattle.f64_helpers.specs.F64.{◌⊕◌, ◌⊖◌, ◌⊗◌, ◌⊘◌, ◌<ᶠ◌, ◌≤ᶠ◌, decimal, zero}
 use Rattle.f64_helpers.specs.Integers.{◌==ᶻ◌}
-use Rattle.f64_helpers.specs.Ranges.{Between, is_finite, Finite}
-use Rattle.f64_helpers.proofs.Intervals.{finite_between, wider, inside, add_in, sub_in, mul_in_turned, div_in, neg_in, if_in}
+use Rattle.f64_helpers.specs.Ranges.{Between, Finite}
+use Rattle.f64_helpers.proofs.Intervals.{finite_between, add_in, sub_in, mul_in_turned, div_in, if_in}
 use Rattle.f64_helpers.proofs.Monotone.{div_mono, div_is, above_zero}
 use Rattle.box_choices.specs.declared.Choices.{Choices}
 use Rattle.cdl_recurrences.specs.CdlRecurrences.{buildings_line, clamp, greater_hysteretic}
@@ -107,15 +107,15 @@ mode_one (pos n) h = subst (λ (n : ℕ). T (le_z (pos 1) (pos n) && le_z (pos n
 mode_one (negsuc n) h = absurd h
 
 module _ (choices : Choices) (f : FlowsIn choices) {occupied_minimum : Float} (o : Flow choices.design_cooling_maximum_flow occupied_minimum) where
-  active_in : (mode : ℤ) → Flow choices.design_cooling_maximum_flow (active_airflow mode occupied_minimum choices).minimum
+  pub active_in : (mode : ℤ) → Flow choices.design_cooling_maximum_flow (active_airflow mode occupied_minimum choices).minimum
   unfolding active_airflow
   active_in mode = chosen_flow choices f (mode ==ᶻ 1) occupied_minimum zero o (no_flow choices f)
 
-  active_maximum_in : (mode : ℤ) → Flow choices.design_cooling_maximum_flow (active_airflow mode occupied_minimum choices).cooling_maximum
+  pub active_maximum_in : (mode : ℤ) → Flow choices.design_cooling_maximum_flow (active_airflow mode occupied_minimum choices).cooling_maximum
   unfolding active_airflow
   active_maximum_in mode = chosen_flow choices f (le_z (pos 1) mode && le_z mode (pos 3)) choices.design_cooling_maximum_flow zero (at_maximum choices f) (no_flow choices f)
 
-  active_order : (mode : ℤ) → T ((active_airflow mode occupied_minimum choices).minimum ≤ᶠ (active_airflow mode occupied_minimum choices).cooling_maximum)
+  pub active_order : (mode : ℤ) → T ((active_airflow mode occupied_minimum choices).minimum ≤ᶠ (active_airflow mode occupied_minimum choices).cooling_maximum)
   unfolding active_airflow
   active_order mode = go (mode ==ᶻ 1) (le_z (pos 1) mode && le_z mode (pos 3)) (mode_one mode)
     where

@@ -1,17 +1,16 @@
 -- Where the ventilation setpoints, the active airflow and the airflow setpoint lie. Assumes nothing.
-use Rattle.std.proofs.Common.{◌≡◌, refl, ℕ, ◌*◌, ◌==◌, Bool, true, false, not, ◌&&◌, ◌||◌, T, sym, ap, subst, ℤ, pos, negsuc, if◌then◌else◌, eqb→eq}
-use Rattle.std.specs.Int.Signed.{le_z}
-use lib.Ieee.{Float, fin, binary64, round, neg, add, sub, mul, div, lt, eq, le, fits}
-use lib.Ieee.Fits.{add-fits, mul-fits}
-use Rattle.std.proofs.lemmas.Float.{le_refl, le_right, le_trans}
-use Rattle.f64_helpers.specs.F64.{◌⊕◌, ◌⊖◌, ◌⊗◌, ◌⊘◌, ◌<ᶠ◌, ◌≤ᶠ◌, decimal, zero}
+use Rattle.std.proofs.Common.{Bool, true, false, T, if◌then◌else◌}
+use lib.Ieee.{Float, binary64, round, neg, add, div, lt, eq, le, fits}
+use lib.Ieee.Fits.{add-fits}
+use Rattle.std.proofs.lemmas.Float.{le_refl, le_trans}
+use Rattle.f64_helpers.specs.F64.{◌⊕◌, ◌⊖◌, ◌≤ᶠ◌, decimal, zero}
 use Rattle.f64_helpers.specs.Integers.{◌==ᶻ◌}
-use Rattle.f64_helpers.specs.Ranges.{Between, is_finite, Finite}
-use Rattle.f64_helpers.proofs.Intervals.{finite_between, finite_number, wider, inside, add_in, div_in, if_in}
+use Rattle.f64_helpers.specs.Ranges.{Between, Finite}
+use Rattle.f64_helpers.proofs.Intervals.{finite_between, finite_number, add_in, div_in, if_in}
 use Rattle.box_choices.specs.declared.Choices.{Choices}
 use Rattle.cdl_recurrences.specs.CdlRecurrences.{buildings_line}
 use Rattle.cdl_recurrences.proofs.UnitLine.{line_in}
-use Rattle.cooling_only_controller_conditioning.specs.Conditioning.{setpoints, active_airflow, COOLING_DISTRIBUTION_EFFECTIVENESS, HEATING_DISTRIBUTION_EFFECTIVENESS, POPULATION_BREATHING_FLOW, AREA_BREATHING_FLOW}
+use Rattle.cooling_only_controller_conditioning.specs.Conditioning.{setpoints, COOLING_DISTRIBUTION_EFFECTIVENESS, HEATING_DISTRIBUTION_EFFECTIVENESS, POPULATION_BREATHING_FLOW, AREA_BREATHING_FLOW}
 use Rattle.cooling_only_controller_conditioning.specs.declared.SetpointInput.{SetpointInput}
 use Rattle.cooling_only_controller_conditioning.specs.declared.SetpointsState.{SetpointsState}
 use Rattle.cooling_only_controller_conditioning.specs.declared.SetpointOutput.{SetpointOutput}

@@ -5,6 +5,7 @@ pub mod Loops
 pub mod Co2Line
 pub mod Flows
 pub mod Damper
+pub mod KeptBox
 pub mod Suppression
 pub mod Requests
 pub mod Accepted

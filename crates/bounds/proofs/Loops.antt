@@ -1,18 +1,18 @@
 -- The two control loops keep their ranges over an accepted tick. Assumes nothing.
-use Rattle.std.proofs.Common.{◌≡◌, refl, Bool, true, false, not, ◌&&◌, T, sym, Some, None, Option, if◌then◌else◌}
-use lib.Ieee.{Float, binary64, round, neg, add, sub, mul, div, lt, eq, le}
-use Rattle.f64_helpers.specs.F64.{◌⊕◌, ◌⊖◌, ◌⊗◌, ◌⊘◌, ◌≤ᶠ◌, decimal, zero}
-use Rattle.f64_helpers.specs.Ranges.{Between, is_finite, Finite}
-use Rattle.f64_helpers.proofs.Intervals.{finite_between, wider, inside, sub_in, add_in, neg_in, mul_in, mul_in_turned, if_in}
-use Rattle.cdl_recurrences.specs.CdlRecurrences.{clamp, less_hysteretic}
+use Rattle.std.proofs.Common.{◌≡◌, refl, Bool, not, ◌&&◌, sym, Some, None, Option, if◌then◌else◌}
+use lib.Ieee.{Float, round, neg, add, sub, mul, lt, eq, le}
+use Rattle.f64_helpers.specs.F64.{◌⊕◌, ◌⊖◌, ◌⊗◌, decimal, zero}
+use Rattle.f64_helpers.specs.Ranges.{Between, Finite}
+use Rattle.f64_helpers.proofs.Intervals.{finite_between, sub_in, add_in, neg_in, mul_in, mul_in_turned, if_in}
+use Rattle.cdl_recurrences.specs.CdlRecurrences.{less_hysteretic}
 use Rattle.cdl_recurrences.proofs.Ranges.{clamp_unit}
-use Rattle.cooling_only_controller_timing.specs.Timing.{step_seconds, true_delay}
-use Rattle.cooling_only_controller_conditioning.specs.Conditioning.{loop_pi, control_loops, CONTROL_GAIN, TEMPERATURE_HYSTERESIS}
+use Rattle.cooling_only_controller_timing.specs.Timing.{step_seconds}
+use Rattle.cooling_only_controller_conditioning.specs.Conditioning.{loop_pi, control_loops, TEMPERATURE_HYSTERESIS}
 use Rattle.cooling_only_controller_timing.specs.declared.Step.{Step}
 use Rattle.cooling_only_controller_conditioning.specs.declared.ControlLoopOutput.{ControlLoopOutput}
 use Rattle.cooling_only_controller_conditioning.specs.declared.LoopPiState.{LoopPiState}
 use Rattle.cooling_only_controller_conditioning.specs.declared.ControlLoopsState.{ControlLoopsState}
-use Rattle.bounds.specs.Limits.{LONGEST_STEP, COLDEST, HOTTEST, LOOP_GAIN, LOOP_INTEGRAL_TIME, next_integrator}
+use Rattle.bounds.specs.Limits.{LONGEST_STEP, COLDEST, HOTTEST, LOOP_GAIN, next_integrator}
 use Rattle.bounds.specs.Kept.{KeptLoopPi, KeptControlLoops}
 use Rattle.bounds.proofs.Pi.{loop_next}
 use Rattle.bounds.proofs.Timing.{Accepted, kept_true_delay, lengths}

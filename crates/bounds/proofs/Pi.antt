@@ -1,9 +1,9 @@
 -- Both integrators stay in their range. Where an integrator is high, the anti-windup outweighs the error and it does not rise; where it is not, one step cannot carry it
 -- over. So the range is cut in pieces, a row of numbers for each: those above for the upper end, those below for the lower one. Each row is checked by computing. Assumes nothing.
-use Rattle.std.proofs.Common.{◌≡◌, ℕ, Bool, true, false, T, ◌⊎◌, inl, inr}
-use lib.Ieee.{Float, binary64, round, neg, add, sub, mul, div, lt, eq, le, is_nan}
-use Rattle.f64_helpers.specs.F64.{◌⊕◌, ◌⊖◌, ◌⊗◌, ◌⊘◌, ◌<ᶠ◌, ◌≤ᶠ◌, decimal, zero}
-use Rattle.f64_helpers.specs.Ranges.{Between, is_finite, Finite}
+use Rattle.std.proofs.Common.{ℕ, T, ◌⊎◌, inl, inr}
+use lib.Ieee.{Float, round, neg, add, sub, mul, div, lt, eq, le}
+use Rattle.f64_helpers.specs.F64.{◌⊖◌, ◌≤ᶠ◌, decimal, zero}
+use Rattle.f64_helpers.specs.Ranges.{Between, Finite}
 use Rattle.f64_helpers.proofs.Intervals.{finite_between, at_most_or_least}
 use Rattle.bounds.specs.Limits.{LONGEST_STEP, COLDEST, HOTTEST, LOOP_GAIN, LOOP_INTEGRAL_TIME, DAMPER_GAIN, DAMPER_INTEGRAL_TIME, next_integrator}
 use Rattle.bounds.proofs.PiRange.{Tests, next_in}

@@ -1,7 +1,7 @@
 -- System requests and alarms keep their ranges over an accepted tick. Assumes nothing.
-use Rattle.std.proofs.Common.{◌≡◌, Bool, true, false, not, ◌&&◌, T, Some, None, Option}
-use lib.Ieee.{Float, round, neg, lt, eq, le}
-use Rattle.f64_helpers.specs.F64.{◌≤ᶠ◌, decimal, zero}
+use Rattle.std.proofs.Common.{Some, Option}
+use lib.Ieee.{Float, neg}
+use Rattle.f64_helpers.specs.F64.{decimal, zero}
 use Rattle.f64_helpers.specs.Ranges.{Between}
 use Rattle.box_choices.specs.declared.Choices.{Choices}
 use Rattle.cooling_only_controller_airflow.specs.Airflow.{system_requests, alarms}

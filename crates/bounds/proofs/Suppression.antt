@@ -1,10 +1,10 @@
 -- Time suppression keeps its ranges over an accepted tick. Assumes nothing.
-use Rattle.std.proofs.Common.{◌≡◌, Bool, true, false, not, ◌&&◌, T, Some, None, Option}
+use Rattle.std.proofs.Common.{Some, Option}
 use lib.Ieee.{Float, round, lt, eq, le}
-use Rattle.f64_helpers.specs.F64.{◌≤ᶠ◌, zero}
+use Rattle.f64_helpers.specs.F64.{zero}
 use Rattle.f64_helpers.specs.Ranges.{Between}
 use Rattle.f64_helpers.proofs.Intervals.{wider, if_in}
-use Rattle.cooling_only_controller_conditioning.specs.Conditioning.{time_suppression, SAMPLE_PERIOD}
+use Rattle.cooling_only_controller_conditioning.specs.Conditioning.{time_suppression}
 use Rattle.cooling_only_controller_conditioning.specs.declared.TimeSuppressionState.{TimeSuppressionState}
 use Rattle.bounds.specs.Limits.{COLDEST, HOTTEST}
 use Rattle.bounds.specs.Kept.{KeptTimeSuppression}

@@ -1,13 +1,13 @@
 -- The timing blocks keep their ranges over an accepted tick. Assumes nothing.
-use Rattle.std.proofs.Common.{◌≡◌, refl, ℕ, ◌*◌, ◌/◌, ◌<◌, le_trans, lit<, lit≤, div-mul-le_self, ◌≤◌, Bool, true, false, not, cond, ◌&&◌, ◌||◌, T, ◌⊎◌, inl, inr, sym, ap, subst, true≢false, if◌then◌else◌, Some, None, Option}
-use lib.Ieee.{Float, nan, inf, fin, binary64, round, neg, sum, add, sub, mul, div, lt, eq, le, is_nan}
-use Rattle.std.proofs.lemmas.Float.{le_refl, le_right, le_of_not-lt}
-use Rattle.f64_helpers.specs.F64.{◌⊕◌, ◌⊖◌, ◌⊗◌, ◌⊘◌, ◌<ᶠ◌, ◌>ᶠ◌, ◌≤ᶠ◌, ◌≥ᶠ◌, decimal, zero}
+use Rattle.std.proofs.Common.{◌≡◌, refl, ℕ, ◌*◌, ◌/◌, le_trans, lit<, lit≤, div-mul-le_self, ◌≤◌, Bool, true, false, not, ◌&&◌, ◌||◌, T, sym, subst, true≢false, if◌then◌else◌, Some, None, Option}
+use lib.Ieee.{Float, round, add, lt, eq, le, is_nan}
+use Rattle.std.proofs.lemmas.Float.{le_refl, le_right}
+use Rattle.f64_helpers.specs.F64.{◌⊕◌, ◌⊖◌, ◌⊘◌, ◌>ᶠ◌, ◌≤ᶠ◌, ◌≥ᶠ◌, decimal, zero}
 use Rattle.f64_helpers.specs.Helpers.{abs, max, negative, as_f64}
 use Rattle.f64_helpers.proofs.SignBits.{sum_clear}
 use Rattle.f64_helpers.specs.Seconds.{Whole, IsTime, seconds}
-use Rattle.f64_helpers.specs.Ranges.{Between, is_finite, Finite, NotMinusZero}
-use Rattle.f64_helpers.proofs.Intervals.{finite_between, at_most_or_least, not_at_least, add_in, wider, inside, ends}
+use Rattle.f64_helpers.specs.Ranges.{Between, Finite}
+use Rattle.f64_helpers.proofs.Intervals.{finite_between, not_at_least, add_in, wider, inside, ends}
 use Rattle.cdl_recurrences.specs.CdlRecurrences.{true_delay_output, sampler_output, initial_sample_time, sample_index, sample_due}
 use Rattle.cdl_recurrences.proofs.SampleGrid.{initial_sample_time_whole}
 use Rattle.f64_helpers.proofs.WholeSeconds.{seconds_of}

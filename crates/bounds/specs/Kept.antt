@@ -1,13 +1,11 @@
 -- What a box grown from a start keeps: a range for each f64 of its state, and what these ranges need of each other from one tick to the next.
 -- A fresh box has it, and an accepted tick keeps it (proofs/KeptBox.antt). `last` is the time of the last accepted tick.
-use Rattle.std.specs.Prelude.{◌≡◌, ℕ, ◌≤◌, Bool, false, T, Float, Option, Some, None}
-use Rattle.std.specs.Float.{binary64}
-use Rattle.std.specs.Float.Ieee.{fits, neg}
+use Rattle.std.specs.Prelude.{◌≡◌, ℕ, ◌≤◌, false, T, Float, Option, Some, None}
+use Rattle.std.specs.Float.Ieee.{neg}
 use Rattle.f64_helpers.specs.F64.{◌⊕◌, ◌≤ᶠ◌, decimal, zero}
 use Rattle.f64_helpers.specs.Helpers.{negative}
 use Rattle.f64_helpers.specs.Seconds.{IsTime, seconds}
-use Rattle.f64_helpers.specs.Ranges.{Between, NotMinusZero}
-use Rattle.box_choices.specs.declared.Choices.{Choices}
+use Rattle.f64_helpers.specs.Ranges.{Between}
 use Rattle.cooling_only_controller_timing.specs.declared.SamplerState.{SamplerState}
 use Rattle.cooling_only_controller_timing.specs.declared.UnitDelayState.{UnitDelayState}
 use Rattle.cooling_only_controller_timing.specs.declared.TrueDelayState.{TrueDelayState}
@@ -98,12 +96,11 @@ pub record KeptAlarms (last : Option Float) (s : AlarmsState) : Type 0 where
   pub sensor_delay : KeptTrueDelay last (decimal 600 1) s.sensor_delay
   pub leak_delay : KeptTrueDelay last (decimal 600 1) s.leak_delay
 
--- ---- the box, built with these choices; the damper's integrator lies from -`end` to `end`
-pub record KeptBox (choices : Choices) (end : Float) (box : AirBox) : Type 0 where
-  pub choices_kept : box.choices ≡ choices
+-- ---- the box; the damper's integrator lies from -`end` to `end`, which the box's size decides
+pub record KeptBox (end : Float) (box : AirBox) : Type 0 where
   pub last_time : TimeIfPresent box.last_time
   pub time_suppression : KeptTimeSuppression box.last_time box.state.time_suppression
   pub control_loops : KeptControlLoops box.last_time box.state.control_loops
   pub dampers : KeptDamper box.last_time end box.state.dampers
-  pub system_requests : KeptSystemRequests box.last_time choices.design_cooling_maximum_flow box.state.system_requests
+  pub system_requests : KeptSystemRequests box.last_time box.choices.design_cooling_maximum_flow box.state.system_requests
   pub alarms : KeptAlarms box.last_time box.state.alarms

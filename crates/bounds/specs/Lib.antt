@@ -1,2 +1,4 @@
 pub mod Limits
 pub mod Kept
+pub mod EveryNumber
+pub mod Bounds

@@ -1,7 +1,6 @@
 -- What the ranges of Kept.antt rest on: the ranges of an accepted tick's readings and the longest step between two, by document 01's questions, and the numbers of
 -- the two PIs. The proofs take them from here, and show that an accepted tick keeps to them (proofs/Accepted.antt) and that the stages have these PIs.
 use Rattle.std.specs.Prelude.{Float}
-use Rattle.std.specs.Float.Ieee.{neg}
 use Rattle.f64_helpers.specs.F64.{◌⊕◌, ◌⊖◌, ◌⊗◌, ◌⊘◌, decimal, zero}
 use Rattle.cdl_recurrences.specs.CdlRecurrences.{clamp}
 use Rattle.cooling_only_controller_conditioning.specs.Conditioning.{CONTROL_GAIN, CONTROL_INTEGRAL_TIME, ANTI_WINDUP_NI}
