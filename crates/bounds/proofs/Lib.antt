@@ -6,6 +6,8 @@ pub mod Co2Line
 pub mod Flows
 pub mod Damper
 pub mod KeptBox
+pub mod Numbers
+pub mod Bounds
 pub mod Suppression
 pub mod Requests
 pub mod Accepted
