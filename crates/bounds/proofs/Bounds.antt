@@ -1,6 +1,6 @@
 -- N8: along any ticks. Assumes nothing.
-use Rattle.std.proofs.Common.{◌≡◌, refl, ℕ, ◌⊎◌, ap, ◌∙◌, subst₂, List, [], ◌∷◌, Bool, ◌&&◌, T, sym, subst, inl, inr}
-use lib.Ieee.{Float, binary64, round, neg, lt, eq, le, fits}
+use Rattle.std.proofs.Common.{◌≡◌, refl, ℕ, ◌⊎◌, ap, ◌∙◌, subst₂, List, [], ◌∷◌, Bool, sym, subst, inl}
+use lib.Ieee.{Float, round, neg, lt, eq, le, fits}
 use lib.Ieee.Fits.{and_l, and_r}
 use Rattle.f64_helpers.specs.F64.{◌≤ᶠ◌, ◌≥ᶠ◌, decimal, zero}
 use Rattle.f64_helpers.specs.Ranges.{Between, Finite}
@@ -16,7 +16,7 @@ use Rattle.air_box.proofs.Demands.{tick_accepted, tick_refused, by_verdict, dema
 use Rattle.nights.specs.Nights.{box_after}
 use Rattle.bounds.specs.Kept.{KeptBox}
 use Rattle.bounds.specs.Bounds.{grown, usual_size, IntegratorsInBounds, OutputsInBounds, Built, Bounds}
-use Rattle.bounds.specs.EveryNumber.{BoxNumbers, OutputNumbers}
+use Rattle.bounds.specs.EveryNumber.{BoxNumbers}
 use Rattle.bounds.proofs.Flows.{FlowsIn, maximum_finite}
 use Rattle.bounds.proofs.Damper as Dampers
 use Rattle.bounds.proofs.Damper.{Size, any_size}

@@ -1,6 +1,6 @@
 -- What a box keeps (Kept.antt): a fresh box has it, an accepted tick keeps it, and with it the outputs lie in their ranges. Assumes nothing.
-use Rattle.std.proofs.Common.{◌≡◌, refl, Bool, T, sym, Some, None, Option, zero-le, lit≤}
-use lib.Ieee.{Float, binary64, round, neg, add, lt, eq, le, is_nan}
+use Rattle.std.proofs.Common.{refl, T, Some, None, lit≤}
+use lib.Ieee.{Float, round, neg, lt, eq, le}
 use Rattle.f64_helpers.specs.F64.{◌≤ᶠ◌, decimal, zero}
 use Rattle.f64_helpers.specs.Ranges.{Between}
 use Rattle.f64_helpers.proofs.WholeSeconds.{zero_whole}
@@ -14,7 +14,6 @@ use Rattle.cooling_only_controller_airflow.specs.declared.DamperState.{DamperSta
 use Rattle.cooling_only_controller_airflow.specs.declared.DamperOutput.{DamperOutput}
 use Rattle.cooling_only_controller.specs.declared.ControllerState.{ControllerState}
 use Rattle.cooling_only_controller.specs.Controller.{controller_output}
-use Rattle.cooling_only_controller.specs.declared.ControllerOutput.{ControllerOutput}
 use Rattle.cooling_only_controller_conditioning.specs.declared.SetpointInput.{SetpointInput}
 use Rattle.cooling_only_controller.specs.declared.ControllerInput.{ControllerInput}
 use Rattle.cooling_only_controller_airflow.specs.declared.DamperInput.{DamperInput}
@@ -23,8 +22,8 @@ use Rattle.air_box.specs.Demand1.{AllYes}
 use Rattle.air_box.specs.Demand2.{controller_step_of}
 use Rattle.air_box.specs.declared.Tick.{Tick}
 use Rattle.air_box.specs.declared.AirBox.{AirBox}
-use Rattle.bounds.specs.Limits.{LONGEST_STEP, HOTTEST, HIGHEST_FLOW}
-use Rattle.bounds.specs.Kept.{KeptGrid, KeptSampler, KeptUnitDelay, KeptLoopPi, KeptControlLoops, KeptDamper, KeptBox}
+use Rattle.bounds.specs.Limits.{HOTTEST, HIGHEST_FLOW}
+use Rattle.bounds.specs.Kept.{KeptGrid, KeptControlLoops, KeptDamper, KeptBox}
 use Rattle.bounds.specs.Bounds.{OutputsInBounds}
 use Rattle.bounds.proofs.Accepted.{Readings, readings_in, accepted}
 use Rattle.bounds.proofs.Timing.{Accepted, fresh_kept, lengths}

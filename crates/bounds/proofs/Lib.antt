@@ -11,3 +11,7 @@ pub mod Bounds
 pub mod Suppression
 pub mod Requests
 pub mod Accepted
+mod PublishedSame
+mod PublishedNumbers
+mod PublishedBlocks
+pub mod PublishedStages

@@ -1,9 +1,8 @@
 -- What a box keeps is finite, each f64 by its name. Assumes nothing.
-use Rattle.std.proofs.Common.{◌≡◌, T, sym, subst, Some, None, Option}
-use lib.Ieee.{Float, nan, inf, fin, round, neg, add, lt, eq, le}
-use Rattle.f64_helpers.specs.F64.{◌⊕◌, decimal, zero}
+use Rattle.std.proofs.Common.{◌≡◌, sym, subst, Some, None, Option}
+use lib.Ieee.{Float, nan, inf, fin, round, neg}
 use Rattle.f64_helpers.specs.Seconds.{IsTime}
-use Rattle.f64_helpers.specs.Ranges.{Between, Finite}
+use Rattle.f64_helpers.specs.Ranges.{Finite}
 use Rattle.f64_helpers.proofs.Intervals.{finite_between}
 use Rattle.cooling_only_controller.specs.declared.ControllerOutput.{ControllerOutput}
 use Rattle.cooling_only_controller_timing.specs.declared.SamplerState.{SamplerState}
@@ -11,12 +10,10 @@ use Rattle.cooling_only_controller_timing.specs.declared.UnitDelayState.{UnitDel
 use Rattle.cooling_only_controller_timing.specs.declared.TrueDelayState.{TrueDelayState}
 use Rattle.cooling_only_controller_conditioning.specs.declared.LoopPiState.{LoopPiState}
 use Rattle.air_box.specs.declared.AirBox.{AirBox}
-use Rattle.bounds.specs.Limits.{LONGEST_STEP, HOTTEST, HIGHEST_FLOW}
 use Rattle.bounds.specs.Kept.{TimeIfPresent, KeptSampler, KeptUnitDelay, KeptTrueDelay, KeptLoopPi, KeptBox}
 use Rattle.bounds.specs.EveryNumber.{FiniteIfPresent, SamplerNumbers, UnitDelayNumbers, TrueDelayNumbers, LoopPiNumbers, BoxNumbers, OutputNumbers}
 use Rattle.bounds.specs.Bounds.{OutputsInBounds}
 use Rattle.bounds.proofs.Flows.{FlowsIn, maximum_finite}
-use Rattle.bounds.proofs.Damper.{Size}
 use Rattle.bounds.proofs.Timing.{Length, lengths}
 
 time_finite : (t : Float) → IsTime t → Finite t

@@ -20,7 +20,7 @@ use Rattle.f64_helpers.proofs.Monotone.{mul_is, div_is}
 
 -- ---- units
 -- How many units 1 is, and how many no finite f64 reaches. Both are kept closed, so that a proof does not write out their digits.
-pub one : ℕ
+unfoldable pub one : ℕ
 one = 2 ^ low binary64
 
 pub limit : ℕ
@@ -110,7 +110,7 @@ once_held : (z : Float) (n : ℕ) → Once z n → Held n → InUnits z n
 once_held z n o h = subst (λ (x : Float). InUnits x n) (sym o.once) (of_value (round binary64 o.sign n one) o.sign n (exact_value o.sign n h) o.level)
 
 -- rounding keeps the order
-once_in_order : (y z : Float) (n k : ℕ) → Once y n → Once z k → n ≤ k → T (le y z)
+pub once_in_order : (y z : Float) (n k : ℕ) → Once y n → Once z k → n ≤ k → T (le y z)
 once_in_order y z n k o p h =
     subst T (λ i. le (sym o.once i) (sym p.once i))
     (rounded_in_order o.sign p.sign n k one one one_pos one_pos (signs o.sign p.sign o.level p.level))
@@ -192,7 +192,7 @@ unfolding add
 add_once x y n k u v =
     at_one_scale (λ (x y : Float). Once (add binary64 x y) (n + k)) n k (λ s t m a e d C p q y z. sum_once s t (m * up e * down d) (a * up d * down e) (down e * down d) n k C p q y z) x y u v
 
-sub_once : (x y : Float) (n k : ℕ) → InUnits x n → InUnits y k → k ≤ n → Once (sub binary64 x y) (n - k)
+pub sub_once : (x y : Float) (n k : ℕ) → InUnits x n → InUnits y k → k ≤ n → Once (sub binary64 x y) (n - k)
 unfolding sub neg add
 sub_once x y n k u v h =
     at_one_scale (λ (x y : Float). Once (sub binary64 x y) (n - k)) n k (λ s t m a e d C p q y z. difference_once s t (m * up e * down d) (a * up d * down e) (down e * down d) n k C p q y z h) x y u v
@@ -252,11 +252,11 @@ few_digits : (n : ℕ) → n < 2 ^ 53 → n < limit → Held n
 few_digits n h l = record { digits = n; places = 0; short = h; under = l; is = sym (mul-one n) }
 
 -- q * 2 ^ i in steps of the smaller 2 ^ j
-in_steps : (n q i j : ℕ) → n ≡ q * 2 ^ i → j ≤ i → n ≡ q * 2 ^ (i - j) * 2 ^ j
+pub in_steps : (n q i j : ℕ) → n ≡ q * 2 ^ i → j ≤ i → n ≡ q * 2 ^ (i - j) * 2 ^ j
 in_steps n q i j e h = e ∙ ap (λ (z : ℕ). q * 2 ^ z) (sym (sub-add_cancel h)) ∙ ap (λ (z : ℕ). q * z) (pow-add 2 (i - j) j) ∙ sym (mul_assoc q (2 ^ (i - j)) (2 ^ j))
 
 -- a difference of two multiples of c
-steps_less : (n k q r c : ℕ) → n ≡ q * c → k ≡ r * c → n - k ≡ (q - r) * c
+pub steps_less : (n k q r c : ℕ) → n ≡ q * c → k ≡ r * c → n - k ≡ (q - r) * c
 steps_less n k q r c e e' = (λ i. (e ∙ mul_comm q c) i - (e' ∙ mul_comm r c) i) ∙ sym (mul-sub c q r) ∙ mul_comm c (q - r)
 
 module _ (n k : ℕ) (h : Held n) (g : Held k) where
@@ -312,7 +312,7 @@ pub record Difference (z : Float) (n : ℕ) : Type 0 where
   pub held : Held units
   pub rest : Held (n - units)
 
-rounded_once : (n : ℕ) → Once (round binary64 false n one) n
+pub rounded_once : (n : ℕ) → Once (round binary64 false n one) n
 rounded_once n = record { sign = false; once = refl; level = λ q. absurd q }
 
 -- n units less k are held: z is that

@@ -1,10 +1,10 @@
 pub mod Tests
-mod Values
+pub mod Values
 mod Casts
 mod Floors
-mod Negation
+pub mod Negation
 mod LargerOfTwo
-mod Signs
+pub mod Signs
 mod WholeTest
 pub mod Times
 pub mod Meaning
@@ -18,3 +18,4 @@ pub mod Monotone
 pub mod Intervals
 pub mod SignBits
 pub mod ExactDifferences
+pub mod LargeDifferences

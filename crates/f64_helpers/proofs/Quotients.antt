@@ -153,7 +153,7 @@ rounded_within r s a b c d S B D u v h k =
 
 -- ---- floors of quotients
 -- a float from q to a fraction w / c below q + 1 has the floor q
-floor_within : (y : Float) (q w c : ℕ) → Within y q 1 w c → w < (q + 1) * c → q ≤ 2 ^ 53 → Whole (floor y) q
+pub floor_within : (y : Float) (q w c : ℕ) → Within y q 1 w c → w < (q + 1) * c → q ≤ 2 ^ 53 → Whole (floor y) q
 unfolding floor
 floor_within y q w c k W N =
     let m = k.0 in
@@ -164,7 +164,7 @@ floor_within y q w c k W N =
     rw (k.2, is) (of_value (round binary64 false q 1) false q (whole_held q N) (λ n. absurd n))
 
 -- the fraction w / c that is next below q + 1 is not below a / b
-next_below : (a b q c w : ℕ) → a < q * b + b → b ≤ c → w + 1 ≡ (q + 1) * c → a * c ≤ w * b
+pub next_below : (a b q c w : ℕ) → a < q * b + b → b ≤ c → w + 1 ≡ (q + 1) * c → a * c ≤ w * b
 next_below a b q c w A B W =
     let l : suc a * c ≤ (q * b + b) * c = mul-le-mul_right c A in
     let r : (w + 1) * b ≡ (q * b + b) * c = ap (λ (z : ℕ). z * b) W ∙ mul_right_comm (q + 1) c b ∙ ap (λ (z : ℕ). z * c) (add-mul q 1 b ∙ ap (λ (z : ℕ). q * b + z) (one-mul b)) in

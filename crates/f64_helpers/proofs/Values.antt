@@ -14,11 +14,11 @@ use Rattle.f64_helpers.specs.Helpers.{negative}
 pow_back : (a b : ℕ) → 2 ^ a ≤ 2 ^ b → a ≤ b
 pow_back a b h = le_of_suc-le-suc (lt_of_not-le (λ (g : suc b ≤ a). not-le_of_lt (pow-lt g) h))
 
-record Places (f : Format) (e : ℤ) : Type 0 where
+pub record Places (f : Format) (e : ℤ) : Type 0 where
   pub places : ℕ
   pub in_units : up e * 2 ^ low f ≡ 2 ^ places * down e
 
-places_of : (f : Format) (e : ℤ) → down e ≤ 2 ^ low f → Places f e
+pub places_of : (f : Format) (e : ℤ) → down e ≤ 2 ^ low f → Places f e
 places_of f (pos k) h = record { places = k + low f; in_units = sym (pow-add 2 k (low f)) ∙ sym (mul-one (2 ^ (k + low f))) }
 places_of f (negsuc k) h = record {
   places = low f - suc k;
