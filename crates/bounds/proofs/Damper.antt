@@ -165,7 +165,7 @@ module _ (choices : Choices) (f : FlowsIn choices) (s : DamperState) (input : Da
   unfolding round lt
   maximum_above_zero = lt_of_lt_of_le zero (decimal 1 10) choices.design_cooling_maximum_flow tt f.maximum.from_low
 
-  normalized_in : Between zero (step.output.airflow_setpoint ⊘ choices.design_cooling_maximum_flow) (decimal 1 1)
+  pub normalized_in : Between zero (step.output.airflow_setpoint ⊘ choices.design_cooling_maximum_flow) (decimal 1 1)
   normalized_in =
       let M = choices.design_cooling_maximum_flow in
       let b = airflow_setpoint_in.range in

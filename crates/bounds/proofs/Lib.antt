@@ -15,3 +15,5 @@ mod PublishedSame
 mod PublishedNumbers
 mod PublishedBlocks
 pub mod PublishedStages
+pub mod Signs
+pub mod PublishedKept

@@ -1,11 +1,12 @@
 -- What a box grown from a start keeps: a range for each f64 of its state, and what these ranges need of each other from one tick to the next.
 -- A fresh box has it, and an accepted tick keeps it (proofs/KeptBox.antt). `last` is the time of the last accepted tick.
-use Rattle.std.specs.Prelude.{◌≡◌, ℕ, ◌≤◌, false, T, Float, Option, Some, None}
-use Rattle.std.specs.Float.Ieee.{neg}
+use Rattle.std.specs.Prelude.{◌≡◌, ℕ, ◌≤◌, Bool, false, T, Float, Option, Some, None}
+use Rattle.std.specs.Float.{binary64}
+use Rattle.std.specs.Float.Ieee.{fits, neg}
 use Rattle.f64_helpers.specs.F64.{◌⊕◌, ◌≤ᶠ◌, decimal, zero}
 use Rattle.f64_helpers.specs.Helpers.{negative}
 use Rattle.f64_helpers.specs.Seconds.{IsTime, seconds}
-use Rattle.f64_helpers.specs.Ranges.{Between}
+use Rattle.f64_helpers.specs.Ranges.{Between, NotMinusZero}
 use Rattle.cooling_only_controller_timing.specs.declared.SamplerState.{SamplerState}
 use Rattle.cooling_only_controller_timing.specs.declared.UnitDelayState.{UnitDelayState}
 use Rattle.cooling_only_controller_timing.specs.declared.TrueDelayState.{TrueDelayState}
@@ -15,6 +16,7 @@ use Rattle.cooling_only_controller_conditioning.specs.declared.ControlLoopsState
 use Rattle.cooling_only_controller_airflow.specs.declared.DamperState.{DamperState}
 use Rattle.cooling_only_controller_airflow.specs.declared.SystemRequestsState.{SystemRequestsState}
 use Rattle.cooling_only_controller_airflow.specs.declared.AlarmsState.{AlarmsState}
+use Rattle.cooling_only_controller.specs.declared.ControllerState.{ControllerState}
 use Rattle.air_box.specs.declared.AirBox.{AirBox}
 use Rattle.bounds.specs.Limits.{LONGEST_STEP, HOTTEST, HIGHEST_FLOW}
 
@@ -104,3 +106,17 @@ pub record KeptBox (end : Float) (box : AirBox) : Type 0 where
   pub dampers : KeptDamper box.last_time end box.state.dampers
   pub system_requests : KeptSystemRequests box.last_time box.choices.design_cooling_maximum_flow box.state.system_requests
   pub alarms : KeptAlarms box.last_time box.state.alarms
+
+-- ---- signs, for the agreement with the published helpers (PublishedAgrees.antt): no integrator is -0.0. A loop's PI was last triggered by its enable, so that it resets
+-- only where that rises; the integrators are f64.
+
+pub record KeptLoopSign (enable : Bool) (s : LoopPiState) : Type 0 where
+  pub held : T (fits binary64 s.integrator)
+  pub sign : NotMinusZero s.integrator
+  pub trigger : s.previous_trigger ≡ enable
+
+pub record KeptSigns (s : ControllerState) : Type 0 where
+  pub cooling : KeptLoopSign s.control_loops.cooling_enable s.control_loops.cooling_pi
+  pub heating : KeptLoopSign s.control_loops.heating_enable s.control_loops.heating_pi
+  pub damper_held : T (fits binary64 s.dampers.integrator)
+  pub damper_sign : NotMinusZero s.dampers.integrator

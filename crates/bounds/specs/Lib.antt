@@ -4,3 +4,4 @@ pub mod EveryNumber
 pub mod Bounds
 pub mod PublishedHelpers
 pub mod PublishedController
+pub mod PublishedAgrees

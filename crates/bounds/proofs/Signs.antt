@@ -1,0 +1,116 @@
+-- No integrator becomes -0.0: a sum is -0.0 only if both parts are, and a reset stores minus a number above 0, or 0.01 less one. Assumes nothing.
+use Rattle.std.proofs.Common.{◌≡◌, refl, Bool, true, false, not, ◌&&◌, ◌||◌, T, sym, subst, pos, negsuc, inl, inr, Some, None, Option, if◌then◌else◌}
+use lib.Ieee.{Float, fin, binary64, round, neg, add, sub, mul, div, lt, eq, le, fits}
+use lib.Ieee.Fits.{add-fits, sub-fits, mul-fits, neg-fits, and_l, and_r}
+use Rattle.std.proofs.lemmas.Float.{le_trans, lt_of_lt_of_le, le_of_eq, eq_flip}
+use Rattle.f64_helpers.specs.F64.{◌⊕◌, ◌⊖◌, ◌⊗◌, ◌⊘◌, ◌<ᶠ◌, ◌≤ᶠ◌, decimal, zero}
+use Rattle.f64_helpers.specs.Ranges.{Between, is_finite, Finite, NotMinusZero}
+use Rattle.f64_helpers.proofs.Signs.{neg_neg}
+use Rattle.f64_helpers.proofs.Sums.{le_turned}
+use Rattle.f64_helpers.proofs.Intervals.{finite_between, times_larger, sub_in}
+use Rattle.f64_helpers.proofs.LargeDifferences.{difference_from_128}
+use Rattle.cdl_recurrences.specs.CdlRecurrences.{less_hysteretic}
+use Rattle.cooling_only_controller_conditioning.specs.Conditioning.{loop_pi, TEMPERATURE_HYSTERESIS, CONTROL_GAIN}
+use Rattle.cooling_only_controller_conditioning.specs.declared.LoopPiState.{LoopPiState}
+use Rattle.cooling_only_controller_airflow.specs.Airflow.{damper}
+use Rattle.cooling_only_controller_airflow.specs.declared.DamperInput.{DamperInput}
+use Rattle.cooling_only_controller_airflow.specs.declared.DamperState.{DamperState}
+use Rattle.box_choices.specs.declared.Choices.{Choices}
+use Rattle.cooling_only_controller.specs.Controller.{fresh_controller}
+use Rattle.bounds.specs.Limits.{COLDEST, HOTTEST}
+use Rattle.bounds.specs.Kept.{KeptLoopSign, KeptSigns}
+use Rattle.bounds.proofs.PublishedNumbers.{not_minus_zero, sum_not_minus_zero}
+
+-- minus a number above 0
+opposite_sign : (p : Float) → T (zero <ᶠ p) → NotMinusZero (neg p)
+opposite_sign p h =
+    not_minus_zero (neg p) (λ e. none (lt_of_lt_of_le zero p (neg zero) h (subst (λ (z : Float). T (z ≤ᶠ neg zero)) (neg_neg p) (le_turned zero (neg p) (le_of_eq zero (neg p) (eq_flip (neg p) zero e))))))
+  where
+    none : T (zero <ᶠ neg zero) → ⊥
+    none k = unfold neg lt in k
+
+-- of two temperatures, the one above the other
+module _ {above below : Float} (x : Between COLDEST above HOTTEST) (y : Between COLDEST below HOTTEST) (f : T (fits binary64 above)) (g : T (fits binary64 below)) (h : T (below <ᶠ above)) where
+  temperature_finite : {z : Float} → Between COLDEST z HOTTEST → Finite z
+  unfolding round
+  temperature_finite b = finite_between tt tt b
+
+  from_128 : T (fin false 1 (pos 7) ≤ᶠ below)
+  unfolding round le lt eq
+  from_128 = le_trans (fin false 1 (pos 7)) COLDEST below tt y.from_low
+
+  error_above : T (fin false 1 (negsuc 1063) ≤ᶠ above ⊖ below)
+  error_above = difference_from_128 above below f g (temperature_finite x) (temperature_finite y) from_128 h
+
+  error_finite : Finite (above ⊖ below)
+  unfolding round neg add sub le lt eq
+  error_finite = let e : Between (neg (decimal 300 1)) (above ⊖ below) (decimal 300 1) = sub_in x y tt in finite_between tt tt e
+
+  proportional_above : T (zero <ᶠ CONTROL_GAIN ⊗ (above ⊖ below))
+  unfolding round mul le lt eq
+  proportional_above = lt_of_lt_of_le zero (CONTROL_GAIN ⊗ fin false 1 (negsuc 1063)) (CONTROL_GAIN ⊗ (above ⊖ below)) tt (times_larger CONTROL_GAIN (fin false 1 (negsuc 1063)) (above ⊖ below) tt tt error_finite tt error_above)
+
+  reset_sign : NotMinusZero (neg (CONTROL_GAIN ⊗ (above ⊖ below)))
+  reset_sign = opposite_sign (CONTROL_GAIN ⊗ (above ⊖ below)) proportional_above
+
+-- where the enable rises, `below` lies below `above`
+rises : (below above : Float) (previous : Bool) → T (less_hysteretic below above TEMPERATURE_HYSTERESIS previous && not previous) → T (below <ᶠ above)
+unfolding less_hysteretic
+rises below above previous h = go previous (below <ᶠ above) (below <ᶠ above ⊕ TEMPERATURE_HYSTERESIS) h
+  where
+    go : (p on stay : Bool) → T (((not p && on) || (p && stay)) && not p) → T on
+    go false true stay h = tt
+    go false false stay h = absurd h
+    go true true true h = absurd h
+    go true true false h = absurd h
+    go true false true h = absurd h
+    go true false false h = absurd h
+
+-- ---- the loops
+
+held_if : (p : Bool) (x y : Float) → T (fits binary64 x) → T (fits binary64 y) → T (fits binary64 (if p then x else y))
+held_if true x y f g = f
+held_if false x y f g = g
+
+sign_if : (p : Bool) (x y : Float) → (T p → NotMinusZero x) → NotMinusZero y → NotMinusZero (if p then x else y)
+sign_if true x y f g = f tt
+sign_if false x y f g = g
+
+module _ {above below : Float} (x : Between COLDEST above HOTTEST) (y : Between COLDEST below HOTTEST) (f : T (fits binary64 above)) (g : T (fits binary64 below)) (s : LoopPiState) (enable : Bool) (k : KeptLoopSign enable s) (t : Float) where
+  abbrev trigger : Bool
+  trigger = less_hysteretic below above TEMPERATURE_HYSTERESIS enable
+
+  rises_here : T (trigger && not s.previous_trigger) → T (below <ᶠ above)
+  rises_here h = rises below above enable (subst (λ (b : Bool). T (trigger && not b)) k.trigger h)
+
+  pub loop_signs : KeptLoopSign trigger (loop_pi s t (above ⊖ below) trigger).state
+  unfolding loop_pi
+  loop_signs = record {
+    held = held_if (trigger && not s.previous_trigger) _ _ (neg-fits binary64 _ (mul-fits binary64 CONTROL_GAIN (above ⊖ below))) (add-fits binary64 s.integrator _);
+    sign = sign_if (trigger && not s.previous_trigger) _ _ (λ h. reset_sign x y f g (rises_here h)) (sum_not_minus_zero s.integrator _ k.held (mul-fits binary64 _ _) (inl k.sign));
+    trigger = refl;
+  }
+
+-- ---- the box
+
+pub signs_fresh : KeptSigns fresh_controller
+unfolding fits eq
+signs_fresh = record {
+  cooling = record { held = tt; sign = tt; trigger = refl };
+  heating = record { held = tt; sign = tt; trigger = refl };
+  damper_held = tt;
+  damper_sign = tt;
+}
+
+-- 0.01 less a number
+lowered_sign : (z : Float) → T (fits binary64 z) → NotMinusZero (decimal 1 100 ⊖ z)
+unfolding sub round fits eq
+lowered_sign z f = sum_not_minus_zero (decimal 1 100) (neg z) tt (neg-fits binary64 z f) (inl tt)
+
+pub damper_signs : (s : DamperState) (t : Float) (input : DamperInput) (choices : Choices) → T (fits binary64 s.integrator) → NotMinusZero s.integrator
+    → T (fits binary64 (damper s t input choices).state.integrator) × NotMinusZero (damper s t input choices).state.integrator
+unfolding damper
+damper_signs s t input choices f n = (
+  held_if (input.supply_fan_status && not s.previous_fan) _ _ (sub-fits binary64 (decimal 1 100) _) (add-fits binary64 s.integrator _),
+  sign_if (input.supply_fan_status && not s.previous_fan) _ _ (λ h. lowered_sign _ (mul-fits binary64 _ _)) (sum_not_minus_zero s.integrator _ f (mul-fits binary64 _ _) (inl n)),
+)

@@ -1,0 +1,60 @@
+-- Document 02, N8, of demand 2: on every tick of a box grown from a start the published helpers give what document 01's give.
+-- `published max min` are the published `clamp`, `hysteresis` and `sample_index`, over any `max` and `min` that Rust allows (PublishedHelpers.antt);
+-- `controller_output_over` is the controller over some form of the helpers (PublishedController.antt).
+use Rattle.std.specs.Prelude.{◌≡◌, List, [], ◌∷◌, T, Float, Some, Result, Ok, Err, ⊤}
+use Rattle.std.specs.Float.{binary64}
+use Rattle.std.specs.Float.Ieee.{fits}
+use Rattle.f64_helpers.specs.Helpers as F64Helpers
+use Rattle.box_choices.specs.declared.Choices.{Choices}
+use Rattle.cooling_only_controller.specs.Controller.{controller_output}
+use Rattle.cooling_only_controller.specs.declared.ControllerInput.{ControllerInput}
+use Rattle.cooling_only_controller.specs.declared.ControllerState.{ControllerState}
+use Rattle.air_box.specs.AirBox.{unticked, questions, tick}
+use Rattle.air_box.specs.declared.Tick.{Tick}
+use Rattle.air_box.specs.declared.Refusal.{Refusal}
+use Rattle.air_box.specs.declared.AirBox.{AirBox}
+use Rattle.air_box.specs.declared.AirBoxStep.{AirBoxStep}
+use Rattle.nights.specs.Nights.{steps, steps_by}
+use Rattle.bounds.specs.Bounds.{grown, Built}
+use Rattle.bounds.specs.PublishedHelpers.{Helpers, document_01, published, RustMax, RustMin}
+use Rattle.bounds.specs.PublishedController.{controller_output_over}
+
+-- ---- the box of AirBox.antt with that controller
+
+abbrev pub decided_over : Helpers → Result ⊤ Refusal → AirBox → Tick → AirBoxStep
+decided_over h (Ok _) box k =
+    let step = controller_output_over h box.state k.t k.input box.choices in
+    record {
+      state = record { state = step.state; last_time = Some k.t; choices = box.choices };
+      answer = Ok step.output;
+    }
+decided_over h (Err reason) box k = record { state = box; answer = Err reason }
+
+unfoldable pub tick_over : Helpers → AirBox → Tick → AirBoxStep
+tick_over h box k = decided_over h (questions box.last_time k) box k
+
+-- ---- What is asked of the ticks before: that their three temperatures of the loops are f64, as every argument of the code is. A reset of a loop rests on it:
+-- of other numbers a difference above 0 could be so small that its tenth is rounded to 0.
+pub record LoopReadingsHeld (k : Tick) : Type 0 where
+  pub zone_temperature : T (fits binary64 k.input.zone_temperature)
+  pub cooling_setpoint : T (fits binary64 k.input.cooling_setpoint)
+  pub heating_setpoint : T (fits binary64 k.input.heating_setpoint)
+
+abbrev pub AllHeld : List Tick → Type 0
+AllHeld [] = Unit
+AllHeld (k ∷ ks) = LoopReadingsHeld k × AllHeld ks
+
+-- ---- the claim
+pub record PublishedAgrees : Type 0 where
+  -- the controller over the helpers is today's text: over document 01's helpers it is today's controller, and the box today's box
+  pub same_text : (s : ControllerState) (t : Float) (input : ControllerInput) (choices : Choices)
+      → controller_output_over document_01 s t input choices ≡ controller_output s t input choices
+  pub same_box : (box : AirBox) (k : Tick) → tick_over document_01 box k ≡ tick box k
+  -- document 01's `max` and `min` are among those that Rust allows
+  pub among_them : RustMax F64Helpers.max × RustMin F64Helpers.min
+  -- Over the published helpers, every tick that comes to a box grown from a start, accepted or refused, gives the same answer and leaves the same box, every field.
+  pub every_tick : (max min : Float → Float → Float) → RustMax max → RustMin min → (choices : Choices) → Built choices → (ticks : List Tick) → AllHeld ticks → (k : Tick)
+      → tick_over (published max min) (grown choices ticks) k ≡ tick (grown choices ticks) k
+  -- So a box that is run over the published helpers from the first tick on goes through the same night.
+  pub every_night : (max min : Float → Float → Float) → RustMax max → RustMin min → (choices : Choices) → Built choices → (ticks : List Tick) → AllHeld ticks
+      → steps_by (tick_over (published max min)) (unticked choices) ticks ≡ steps (unticked choices) ticks
