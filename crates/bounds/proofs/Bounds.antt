@@ -29,17 +29,17 @@ pub record Keeps (choices : Choices) (end : Float) (box : AirBox) : Type 0 where
   pub kept : KeptBox end box
 
 module _ (choices : Choices) (f : FlowsIn choices) {smallest error end : Float} (z : Size smallest error end) (large : Between smallest choices.design_cooling_maximum_flow (decimal 10 1)) where
-  flows_of : (box : AirBox) → box.choices ≡ choices → FlowsIn box.choices
+  pub flows_of : (box : AirBox) → box.choices ≡ choices → FlowsIn box.choices
   flows_of box e = subst FlowsIn (sym e) f
 
-  large_of : (box : AirBox) → box.choices ≡ choices → Between smallest box.choices.design_cooling_maximum_flow (decimal 10 1)
+  pub large_of : (box : AirBox) → box.choices ≡ choices → Between smallest box.choices.design_cooling_maximum_flow (decimal 10 1)
   large_of box e = subst (λ (c : Choices). Between smallest c.design_cooling_maximum_flow (decimal 10 1)) (sym e) large
 
   after_accepted : (box : AirBox) (k : Tick) → Keeps choices end box → AllYes box.last_time k → Keeps choices end (accepted_tick box k).state
   unfolding accepted_tick
   after_accepted box k h all = record { choices_kept = h.choices_kept; kept = next_box_kept box (flows_of box h.choices_kept) z (large_of box h.choices_kept) h.kept k all }
 
-  after_tick : (box : AirBox) (k : Tick) → Keeps choices end box → Keeps choices end (tick box k).state
+  pub after_tick : (box : AirBox) (k : Tick) → Keeps choices end box → Keeps choices end (tick box k).state
   after_tick box k h =
       by_verdict box.last_time k
       (λ all. rw (tick_accepted box k all) (after_accepted box k h all))
@@ -75,7 +75,7 @@ module _ (choices : Choices) (f : FlowsIn choices) {smallest error end : Float} 
 
 -- ---- the two sizes
 
-flows_of_built : (choices : Choices) → Built choices → FlowsIn choices
+pub flows_of_built : (choices : Choices) → Built choices → FlowsIn choices
 flows_of_built choices b =
     let minimum = choices.design_minimum_flow in
     let maximum = choices.design_cooling_maximum_flow in
@@ -96,7 +96,7 @@ usual_large : Between (decimal 15 10) (decimal 15 10) (decimal 10 1)
 unfolding round le lt eq
 usual_large = record { from_low = tt; to_high = tt }
 
-ends_finite : Finite (neg (decimal 16 1)) × Finite (decimal 16 1) × Finite (neg (decimal 512 1)) × Finite (decimal 512 1)
+pub ends_finite : Finite (neg (decimal 16 1)) × Finite (decimal 16 1) × Finite (neg (decimal 512 1)) × Finite (decimal 512 1)
 unfolding round neg
 ends_finite = (tt, tt, tt, tt)
 

@@ -17,3 +17,4 @@ mod PublishedBlocks
 pub mod PublishedStages
 pub mod Signs
 pub mod PublishedKept
+pub mod PublishedAgrees

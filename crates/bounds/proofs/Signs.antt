@@ -17,6 +17,13 @@ use Rattle.cooling_only_controller_airflow.specs.declared.DamperInput.{DamperInp
 use Rattle.cooling_only_controller_airflow.specs.declared.DamperState.{DamperState}
 use Rattle.box_choices.specs.declared.Choices.{Choices}
 use Rattle.cooling_only_controller.specs.Controller.{fresh_controller}
+use Rattle.cooling_only_controller_conditioning.specs.Conditioning.{control_loops}
+use Rattle.cooling_only_controller.specs.Controller.{controller_output}
+use Rattle.air_box.specs.Demand2.{controller_step_of}
+use Rattle.air_box.specs.declared.Tick.{Tick}
+use Rattle.air_box.specs.declared.AirBox.{AirBox}
+use Rattle.bounds.specs.PublishedAgrees.{LoopReadingsHeld}
+use Rattle.bounds.proofs.Accepted.{Readings}
 use Rattle.bounds.specs.Limits.{COLDEST, HOTTEST}
 use Rattle.bounds.specs.Kept.{KeptLoopSign, KeptSigns}
 use Rattle.bounds.proofs.PublishedNumbers.{not_minus_zero, sum_not_minus_zero}
@@ -114,3 +121,15 @@ damper_signs s t input choices f n = (
   held_if (input.supply_fan_status && not s.previous_fan) _ _ (sub-fits binary64 (decimal 1 100) _) (add-fits binary64 s.integrator _),
   sign_if (input.supply_fan_status && not s.previous_fan) _ _ (λ h. lowered_sign _ (mul-fits binary64 _ _)) (sum_not_minus_zero s.integrator _ f (mul-fits binary64 _ _) (inl n)),
 )
+
+-- over an accepted tick
+pub next_signs : (box : AirBox) (k : Tick) → Readings k.input → LoopReadingsHeld k → KeptSigns box.state → KeptSigns (controller_step_of box k).state
+unfolding controller_output control_loops
+next_signs box k r h s =
+    let d = damper_signs box.state.dampers k.t _ box.choices s.damper_held s.damper_sign in
+    record {
+      cooling = loop_signs r.zone_temperature r.cooling_setpoint h.zone_temperature h.cooling_setpoint box.state.control_loops.cooling_pi box.state.control_loops.cooling_enable s.cooling k.t;
+      heating = loop_signs r.heating_setpoint r.zone_temperature h.heating_setpoint h.zone_temperature box.state.control_loops.heating_pi box.state.control_loops.heating_enable s.heating k.t;
+      damper_held = d.0;
+      damper_sign = d.1;
+    }
