@@ -1,14 +1,13 @@
 -- The claim of PublishedAgrees.antt. Assumes nothing.
-use Rattle.std.proofs.Common.{◌≡◌, refl, List, [], ◌∷◌, T, sym, ap, subst, Some, Result, Ok, Err, ⊤, inl, inr}
+use Rattle.std.proofs.Common.{◌≡◌, refl, List, [], ◌∷◌, sym, ap, ◌∙◌, Some, Result, Ok}
+use Rattle.std.specs.Bool.{⊤}
 use lib.Ieee.{Float}
 use Rattle.f64_helpers.specs.F64.{decimal}
-use Rattle.f64_helpers.specs.Helpers as F64Helpers
-use Rattle.f64_helpers.specs.Ranges.{Between}
 use Rattle.box_choices.specs.declared.Choices.{Choices}
 use Rattle.cooling_only_controller_timing.specs.declared.Step.{Step}
 use Rattle.cooling_only_controller.specs.declared.ControllerState.{ControllerState}
 use Rattle.cooling_only_controller.specs.declared.ControllerOutput.{ControllerOutput}
-use Rattle.air_box.specs.AirBox.{unticked, questions, tick, accepted_tick, outputs_or_number}
+use Rattle.air_box.specs.AirBox.{unticked, tick, accepted_tick, outputs_or_number}
 use Rattle.air_box.specs.Demand1.{AllYes}
 use Rattle.air_box.specs.Demand2.{controller_step_of}
 use Rattle.air_box.specs.declared.Tick.{Tick}
@@ -24,7 +23,7 @@ use Rattle.bounds.specs.PublishedController.{controller_output_over}
 use Rattle.bounds.specs.PublishedAgrees.{decided_over, tick_over, LoopReadingsHeld, AllHeld, PublishedAgrees}
 use Rattle.bounds.proofs.Accepted.{readings_in}
 use Rattle.bounds.proofs.Flows.{FlowsIn}
-use Rattle.bounds.proofs.Damper.{Size, any_size}
+use Rattle.bounds.proofs.Damper.{any_size}
 use Rattle.bounds.proofs.Bounds.{Keeps, flows_of, large_of, after_tick, grown_keeps, flows_of_built, ends_finite}
 use Rattle.bounds.proofs.Signs.{signs_fresh, next_signs}
 use Rattle.bounds.proofs.PublishedBlocks.{todays_max, todays_min}

@@ -1,9 +1,8 @@
 -- What the agreement with the published helpers asks for (`Handed`) holds at every accepted tick of a box that keeps its ranges and signs. Assumes nothing.
-use Rattle.std.proofs.Common.{◌≡◌, refl, ℕ, ◌≤◌, T, sym, subst, Some, None, Option, le_trans}
-use lib.Ieee.{Float, fin, binary64, round, neg, div, lt, eq, le, fits}
+use Rattle.std.proofs.Common.{T, sym, subst, Option, le_trans}
+use lib.Ieee.{Float, binary64, round, neg, div, lt, eq, le, fits}
 use Rattle.std.proofs.lemmas.Float.{le_of_lt, lt_of_lt_of_le}
-use Rattle.f64_helpers.specs.F64.{◌⊖◌, ◌⊘◌, ◌<ᶠ◌, ◌≤ᶠ◌, decimal, zero}
-use Rattle.f64_helpers.specs.Seconds.{seconds}
+use Rattle.f64_helpers.specs.F64.{◌⊘◌, ◌<ᶠ◌, decimal, zero}
 use Rattle.f64_helpers.specs.Ranges.{Between, Finite, NotMinusZero}
 use Rattle.f64_helpers.proofs.Intervals.{finite_between, div_in}
 use Rattle.f64_helpers.proofs.Monotone.{above_zero}
@@ -11,7 +10,7 @@ use Rattle.f64_helpers.proofs.SignBits.{clear_not_minus_zero}
 use Rattle.air_box.specs.Demand1.{AllYes}
 use Rattle.air_box.specs.declared.Tick.{Tick}
 use Rattle.air_box.specs.declared.AirBox.{AirBox}
-use Rattle.bounds.specs.Limits.{COLDEST, HOTTEST, HIGHEST_CO2, HIGHEST_FLOW}
+use Rattle.bounds.specs.Limits.{COLDEST, HOTTEST}
 use Rattle.bounds.specs.Kept.{KeptGrid, KeptTrueDelay, KeptBox, KeptSigns}
 use Rattle.cooling_only_controller_timing.specs.declared.TrueDelayState.{TrueDelayState}
 use Rattle.bounds.proofs.Accepted.{Readings, readings_in, accepted}

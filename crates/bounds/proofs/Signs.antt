@@ -1,10 +1,10 @@
 -- No integrator becomes -0.0: a sum is -0.0 only if both parts are, and a reset stores minus a number above 0, or 0.01 less one. Assumes nothing.
-use Rattle.std.proofs.Common.{◌≡◌, refl, Bool, true, false, not, ◌&&◌, ◌||◌, T, sym, subst, pos, negsuc, inl, inr, Some, None, Option, if◌then◌else◌}
-use lib.Ieee.{Float, fin, binary64, round, neg, add, sub, mul, div, lt, eq, le, fits}
-use lib.Ieee.Fits.{add-fits, sub-fits, mul-fits, neg-fits, and_l, and_r}
+use Rattle.std.proofs.Common.{refl, Bool, true, false, not, ◌&&◌, ◌||◌, T, subst, pos, negsuc, inl, if◌then◌else◌}
+use lib.Ieee.{Float, fin, binary64, round, neg, add, sub, mul, lt, eq, le, fits}
+use lib.Ieee.Fits.{add-fits, sub-fits, mul-fits, neg-fits}
 use Rattle.std.proofs.lemmas.Float.{le_trans, lt_of_lt_of_le, le_of_eq, eq_flip}
-use Rattle.f64_helpers.specs.F64.{◌⊕◌, ◌⊖◌, ◌⊗◌, ◌⊘◌, ◌<ᶠ◌, ◌≤ᶠ◌, decimal, zero}
-use Rattle.f64_helpers.specs.Ranges.{Between, is_finite, Finite, NotMinusZero}
+use Rattle.f64_helpers.specs.F64.{◌⊕◌, ◌⊖◌, ◌⊗◌, ◌<ᶠ◌, ◌≤ᶠ◌, decimal, zero}
+use Rattle.f64_helpers.specs.Ranges.{Between, Finite, NotMinusZero}
 use Rattle.f64_helpers.proofs.Signs.{neg_neg}
 use Rattle.f64_helpers.proofs.Sums.{le_turned}
 use Rattle.f64_helpers.proofs.Intervals.{finite_between, times_larger, sub_in}
