@@ -1,13 +1,14 @@
 /* Long nights at the ends of every range, of boxes of the usual size and then of other sizes. After each accepted tick every f64 of the state has to be a
-   number, and the integrators and the real outputs have to stay in their bounds; a refused tick may change nothing. The first tick that breaks this is
-   written to standard error, and ends the program with status 1. Else the lowest and the highest that were met are written beside the bounds.
-   The arguments are the ticks of each of the two, those that a search tries on copies among them, and the bound of the damper's integrator for other sizes. */
+   number, and the integrators and the real outputs have to stay in the bounds that are proved (crates/bounds/specs/Bounds.antt); a refused tick may change
+   nothing. The first tick that breaks this is written to standard error, and ends the program with status 1. Else the lowest and the highest that were
+   met are written beside the bounds. The arguments are the ticks of each of the two, those that a search tries on copies among them, and the bound of the
+   damper's integrator for other sizes. */
 #include <math.h>
 #include <stdlib.h>
 #include "air_box.h"
 #include "output.h"
 
-static const double LAST_TIME = 2147483648.0, MAXIMUM = 1.5, MINIMUM = 0.5;
+static const double LAST_TIME = 2147483648.0, MAXIMUM = 1.5, MINIMUM = 0.5, LARGEST_MAXIMUM = 10.0;
 enum { MOST_STEP = 240, STRETCH_TICKS = 800, ROUNDS = 30, TRIES = 24, LONGEST_TRY = 4, STANDING = 20 };
 
 /* ---- what is looked at */
@@ -93,6 +94,7 @@ static void good_tick(AirBox *box, const AirBoxTick *tick, double *values) {
     int odd = no_number(box);
     if (odd < PLACE_COUNT) broken(PLACES[odd].name, double_at(box, &PLACES[odd]), box, tick);
     measure(box, &output, values);
+    if (output.airflow_setpoint > box->last.choices.design_cooling_maximum_flow) broken("airflow_setpoint", output.airflow_setpoint, box, tick);
     for (int n = 0; n < MEASURES; n++) {
         Measure *one = &measures[n];
         if (!isfinite(values[n]) || !(one->bound_low <= values[n] && values[n] <= one->bound_high)) broken(one->name, values[n], box, tick);
@@ -400,10 +402,9 @@ static bool put_measure(const Measure *one) {
     char lowest[32], highest[32], low[32], high[32];
     shortest(one->lowest, lowest, sizeof lowest);
     shortest(one->highest, highest, sizeof highest);
-    if (isinf(one->bound_high)) return put("  %-24s met from %s to %s\n", one->name, lowest, highest);
     shortest(one->bound_low, low, sizeof low);
     shortest(one->bound_high, high, sizeof high);
-    return put("  %-24s met from %s to %s, bounds %s and %s\n", one->name, lowest, highest, low, high);
+    return put("  %-24s met from %s to %s, proved bounds %s and %s\n", one->name, lowest, highest, low, high);
 }
 
 /* Runs nights until so many ticks have been accepted, and writes what was met. */
@@ -418,25 +419,22 @@ static bool nights(const char *which, bool usual, unsigned long ticks) {
                accepted, at_last_time, refused, boxes, PLACE_COUNT);
 }
 
-/* The bounds of a box of the usual size; of one of another size the damper's integrator alone has them. */
-static void set_bounds(bool usual, double damper) {
+/* The proved bounds, of a box of this cooling maximum, or of any up to it, and of this range of the damper's integrator. */
+static void set_bounds(double maximum, double damper) {
     const Measure all[MEASURES] = {
         {"cooling integrator", -64.0, 64.0, 0, 0},
         {"heating integrator", -64.0, 64.0, 0, 0},
         {"damper integrator", -damper, damper, 0, 0},
-        {"airflow_setpoint", 0.0, MAXIMUM, 0, 0},
+        {"airflow_setpoint", 0.0, maximum, 0, 0},
         {"damper_command", 0.0, 1.0, 0, 0},
         {"adjusted_population_flow", 0.0, 0.005, 0, 0},
         {"adjusted_area_flow", 0.0, 0.006, 0, 0},
-        {"minimum_outdoor_airflow", 0.0, (0.005 + 0.006) / 0.8, 0, 0},
+        {"minimum_outdoor_airflow", 0.0, 0.01375, 0, 0},
     };
     memcpy(measures, all, sizeof measures);
     for (int n = 0; n < MEASURES; n++) {
         measures[n].lowest = INFINITY;
         measures[n].highest = -INFINITY;
-        if (usual || n == DAMPER) continue;
-        measures[n].bound_low = -INFINITY;
-        measures[n].bound_high = INFINITY;
     }
 }
 
@@ -444,11 +442,11 @@ int main(int count, char **arguments) {
     unsigned long ticks = count == 3 ? strtoul(arguments[1], NULL, 10) : 0;
     double other_damper = count == 3 ? strtod(arguments[2], NULL) : 0;
     if (ticks == 0 || !(other_damper > 0)) failed("the arguments are the ticks and the bound of the damper's integrator for other sizes");
-    set_bounds(true, 16.0);
+    set_bounds(MAXIMUM, 16.0);
     if (!each_place_is_told()) failed("a NaN or an infinity in the state was not told");
-    set_bounds(true, 16.0);
+    set_bounds(MAXIMUM, 16.0);
     if (!nights("boxes of the usual size", true, ticks)) return cannot("bounds", "write");
-    set_bounds(false, other_damper);
+    set_bounds(LARGEST_MAXIMUM, other_damper);
     if (!nights("boxes of other sizes", false, ticks)) return cannot("bounds", "write");
     return close_output() ? 0 : cannot("bounds", "write");
 }
