@@ -222,13 +222,15 @@ AIR_BOX_ASSERT(offsetof(AirBoxTick, input) == 8);
 #define AIR_BOX_AIRFLOW_SENSOR 3            /* airflow_sensor_alarm: flow is measured while the fan is off, in either reading */
 #define AIR_BOX_LEAKING_DAMPER 4            /* leaking_damper_alarm: flow is measured while the fan is on and the damper closed */
 
-/* The ten outputs. Airflows in cubic metres a second. A request is a number of requests to the air handler, from 0 to 3, 3 the strongest. */
+/* The ten outputs. Airflows in cubic metres a second. A request is a number of requests to the air handler, from 0 to 3, 3 the strongest.
+   Of a box that was built by this library and has had nothing but ticks, no real output is ever infinite or NaN, nor is a number of the box; each
+   output lies in the range that stands beside it, whatever the ticks carried. */
 typedef struct AirBoxOutput {
-    double airflow_setpoint;
+    double airflow_setpoint;                /* from 0 to the box's cooling maximum */
     double damper_command;                  /* from 0, closed, to 1, open */
-    double adjusted_population_flow;        /* outdoor air for the people */
-    double adjusted_area_flow;              /* outdoor air for the floor */
-    double minimum_outdoor_airflow;
+    double adjusted_population_flow;        /* from 0 to 0.005, outdoor air for the people */
+    double adjusted_area_flow;              /* from 0 to 0.006, outdoor air for the floor */
+    double minimum_outdoor_airflow;         /* from 0 to 0.01375 */
     int64_t zone_temperature_reset_request; /* for colder supply air */
     int64_t zone_pressure_reset_request;    /* for more duct pressure */
     int64_t low_airflow_alarm;              /* 0, 2 or 3 */

@@ -209,14 +209,19 @@ pub struct Tick {
 }
 
 /// The ten outputs of an accepted tick. Airflows in cubic metres a second; requests are from 0 to 3, 3 the strongest.
+/// No real output is ever infinite or NaN, whatever the ticks carried; each lies in the range that stands beside it.
 #[repr(C)]
 #[derive(Clone, Copy, Debug, PartialEq)]
 pub struct Output {
+    /// From 0 to the box's cooling maximum.
     pub airflow_setpoint: f64,
     /// From 0, closed, to 1, open.
     pub damper_command: f64,
+    /// From 0 to 0.005, for the people.
     pub adjusted_population_flow: f64,
+    /// From 0 to 0.006, for the floor.
     pub adjusted_area_flow: f64,
+    /// From 0 to 0.01375.
     pub minimum_outdoor_airflow: f64,
     /// For colder supply air.
     pub zone_temperature_reset_request: i64,
