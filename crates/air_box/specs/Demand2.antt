@@ -2,8 +2,9 @@
 -- are those of `controller_output`.
 -- `controller_output` follows the Rust's `ControllerState::output` line by line, with document 01's rules for the helpers, and with the
 -- box's design flows where the Rust has its two constants (document 02, N13).
--- For a plain start and the first reading of the airflow sensor alarm that is what the Rust, so changed, gives on accepted ticks; this is argued and
--- run, not proved (docs/DIFFERENCES.md). What the second reading changes (N12) is said in SecondReading.antt of nights.
+-- For a plain start and the first reading of the airflow sensor alarm that is what the Rust, so changed, gives on accepted ticks. That the text is the
+-- Rust's is read and run, not proved. Where document 01's rules differ from the Rust's own helpers, no tick of a box grown from a start tells:
+-- that is proved (PublishedAgrees.antt of bounds). What the second reading changes (N12) is said in SecondReading.antt of nights.
 -- The method `AirBox::tick` returns `tick` of the box and the tick, by its contract.
 use Rattle.std.specs.Prelude.{Some, ◌≡◌}
 use Rattle.std.proofs.Common.{inl}

@@ -1,6 +1,6 @@
 -- Document 02, N8: integrators that stay in bounds, and outputs that are always numbers.
--- Of a box that has had no tick before, any ticks are given to `tick`, which is what the method `AirBox::tick` is proved to return; refused ones may be among them.
--- Nothing else is asked: not how many they are, and of the state only that it grew from a start.
+-- A box that has had no tick is given any ticks, refused ones among them. Each is run by `tick`, which the method `AirBox::tick` is proved
+-- to return. Nothing else is asked: not how many they are, and of the state only that it grew from a start.
 use Rattle.std.specs.Prelude.{◌≡◌, List, Bool, T, Float}
 use Rattle.std.proofs.Common.{inl}
 use Rattle.std.specs.Float.{binary64}
@@ -32,7 +32,7 @@ pub record IntegratorsInBounds (end : Float) (box : AirBox) : Type 0 where
   pub heating_loop : Between (neg (decimal 64 1)) box.state.control_loops.heating_pi.integrator (decimal 64 1)
   pub damper : Between (neg end) box.state.dampers.integrator end
 
--- the five real outputs, of a box with this cooling maximum
+-- The five real outputs, of a box with this cooling maximum. 0.01375 is (0.005 + 0.006) / 0.8.
 pub record OutputsInBounds (maximum : Float) (output : ControllerOutput) : Type 0 where
   pub airflow_setpoint : Between zero output.airflow_setpoint maximum
   pub damper_command : Between zero output.damper_command (decimal 1 1)
@@ -40,12 +40,12 @@ pub record OutputsInBounds (maximum : Float) (output : ControllerOutput) : Type 
   pub adjusted_area_flow : Between zero output.adjusted_area_flow (decimal 6 1000)
   pub minimum_outdoor_airflow : Between zero output.minimum_outdoor_airflow (decimal 1375 100000)
 
--- What is asked of a box of another size: that building takes its design flows, and that they are f64, as every argument of the code is. The second has to be said,
--- since definitions speak of other numbers too.
+-- What is asked of a box of another size: that building takes its design flows, and that these are f64, as every argument of the code is.
+-- The second has to be said, since definitions speak of other numbers too.
 pub record Built (choices : Choices) : Type 0 where
   pub within : T (design_flows_within choices)
-  pub minimum_held : T (fits binary64 choices.design_minimum_flow)
-  pub maximum_held : T (fits binary64 choices.design_cooling_maximum_flow)
+  pub minimum_is_f64 : T (fits binary64 choices.design_minimum_flow)
+  pub maximum_is_f64 : T (fits binary64 choices.design_cooling_maximum_flow)
 
 -- ---- N8
 pub record Bounds : Type 0 where
@@ -54,14 +54,17 @@ pub record Bounds : Type 0 where
   -- the outputs that any further tick is given lie in their ranges
   pub outputs : (start : Start) (second_reading : Bool) (ticks : List Tick) (k : Tick) (output : ControllerOutput)
       → given_for (grown (usual_size start second_reading) ticks) k ≡ inl output → OutputsInBounds (decimal 15 10) output
-  -- No box grown from a start computes a NaN or an infinity: no f64 of its state after any ticks is one, and none of the outputs that any further tick is given
+  -- No NaN and no infinity stands in a box grown from a start, and none is given: no f64 of its state after any ticks is one, and none of the
+  -- outputs that any further tick is given. Numbers on the way that reach neither are not named.
   pub every_number : (start : Start) (second_reading : Bool) (ticks : List Tick) → BoxNumbers (grown (usual_size start second_reading) ticks)
   pub every_output : (start : Start) (second_reading : Bool) (ticks : List Tick) (k : Tick) (output : ControllerOutput)
       → given_for (grown (usual_size start second_reading) ticks) k ≡ inl output → OutputNumbers output
-  -- the same of a box of any size that building takes, with its own maximum, and a damper's integrator from -512 to 512
+  -- The same of a box of any size that building takes, with its own cooling maximum. 512 is wide: the damper's reset alone reaches 50.5.
   pub other_integrators : (choices : Choices) → Built choices → (ticks : List Tick) → IntegratorsInBounds (decimal 512 1) (grown choices ticks)
   pub other_outputs : (choices : Choices) → Built choices → (ticks : List Tick) (k : Tick) (output : ControllerOutput)
       → given_for (grown choices ticks) k ≡ inl output → OutputsInBounds choices.design_cooling_maximum_flow output
   pub other_every_number : (choices : Choices) → Built choices → (ticks : List Tick) → BoxNumbers (grown choices ticks)
   pub other_every_output : (choices : Choices) → Built choices → (ticks : List Tick) (k : Tick) (output : ControllerOutput)
       → given_for (grown choices ticks) k ≡ inl output → OutputNumbers output
+  -- a box of 0.5 and 1.5 is one of these
+  pub usual_built : (start : Start) (second_reading : Bool) → Built (usual_size start second_reading)

@@ -1,5 +1,5 @@
--- Every f64 of a box and of its outputs, by name: it is finite, neither infinite nor a NaN. Of a time that may be absent this is asked where it is present.
--- The stages that are not named here, `setpoints` and `zone_states`, and the latches hold flags alone.
+-- Every f64 of a box and of its outputs, by name: it is finite, neither infinite nor a NaN. Of a time that may be absent this is asked where
+-- it is present. The stages that are not named here, `setpoints` and `zone_states`, and the latches hold flags alone.
 use Rattle.std.specs.Prelude.{Float, Option, Some, None}
 use Rattle.f64_helpers.specs.Ranges.{Finite}
 use Rattle.cooling_only_controller_timing.specs.declared.SamplerState.{SamplerState}

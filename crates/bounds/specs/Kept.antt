@@ -1,5 +1,6 @@
 -- What a box grown from a start keeps: a range for each f64 of its state, and what these ranges need of each other from one tick to the next.
--- A fresh box has it, and an accepted tick keeps it (proofs/KeptBox.antt). `last` is the time of the last accepted tick.
+-- A fresh box has it, and an accepted tick keeps it (`KeptBox`: proofs/KeptBox.antt). `last` is the time of the last accepted tick.
+-- `KeptSigns` at the end serves the published helpers alone.
 use Rattle.std.specs.Prelude.{◌≡◌, ℕ, ◌≤◌, Bool, false, T, Float, Option, Some, None}
 use Rattle.std.specs.Float.{binary64}
 use Rattle.std.specs.Float.Ieee.{fits, neg}
@@ -107,16 +108,17 @@ pub record KeptBox (end : Float) (box : AirBox) : Type 0 where
   pub system_requests : KeptSystemRequests box.last_time box.choices.design_cooling_maximum_flow box.state.system_requests
   pub alarms : KeptAlarms box.last_time box.state.alarms
 
--- ---- signs, for the agreement with the published helpers (PublishedAgrees.antt): no integrator is -0.0. A loop's PI was last triggered by its enable, so that it resets
--- only where that rises; the integrators are f64.
+-- ---- signs, for the agreement with the published helpers (PublishedAgrees.antt; proofs/Signs.antt)
+-- No integrator is -0.0. A loop's reset stores minus its proportional part, which is above 0 there: the PI resets only where its enable rises,
+-- since the trigger that it remembers is the enable that the loops remember.
 
 pub record KeptLoopSign (enable : Bool) (s : LoopPiState) : Type 0 where
-  pub held : T (fits binary64 s.integrator)
+  pub is_f64 : T (fits binary64 s.integrator)
   pub sign : NotMinusZero s.integrator
   pub trigger : s.previous_trigger ≡ enable
 
 pub record KeptSigns (s : ControllerState) : Type 0 where
   pub cooling : KeptLoopSign s.control_loops.cooling_enable s.control_loops.cooling_pi
   pub heating : KeptLoopSign s.control_loops.heating_enable s.control_loops.heating_pi
-  pub damper_held : T (fits binary64 s.dampers.integrator)
+  pub damper_is_f64 : T (fits binary64 s.dampers.integrator)
   pub damper_sign : NotMinusZero s.dampers.integrator

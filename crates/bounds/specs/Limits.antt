@@ -1,5 +1,6 @@
--- What the ranges of Kept.antt rest on: the ranges of an accepted tick's readings and the longest step between two, by document 01's questions, and the numbers of
--- the two PIs. The proofs take them from here, and show that an accepted tick keeps to them (proofs/Accepted.antt) and that the stages have these PIs.
+-- What the ranges of Kept.antt rest on: the ranges of an accepted tick's readings and the longest step between two, by document 01's questions,
+-- and the numbers of the two PIs. Kept.antt names three of them. The others are named by the proofs alone, which show that an accepted tick keeps
+-- to them (proofs/Accepted.antt) and that the stages have these PIs; were one of them not so, they would not close.
 use Rattle.std.specs.Prelude.{Float}
 use Rattle.f64_helpers.specs.F64.{◌⊕◌, ◌⊖◌, ◌⊗◌, ◌⊘◌, decimal, zero}
 use Rattle.cdl_recurrences.specs.CdlRecurrences.{clamp}
@@ -38,11 +39,16 @@ DAMPER_GAIN = decimal 5 10
 abbrev pub DAMPER_INTEGRAL_TIME : Float
 DAMPER_INTEGRAL_TIME = decimal 300 1
 
--- The next integrator of the PI with anti-windup that `loop_pi` and `damper` each write out (CDL.Reals.PIDWithReset as a PI), where its trigger does not rise.
+-- both: the anti-windup divides the excess over a limit by the gain times this
+abbrev pub WINDUP_SHARE : Float
+WINDUP_SHARE = ANTI_WINDUP_NI
+
+-- The next integrator of the PI with anti-windup that `loop_pi` and `damper` each write out (CDL.Reals.PIDWithReset as a PI),
+-- where its trigger does not rise
 unfoldable pub next_integrator : Float → Float → Float → Float → Float → Float
 next_integrator gain integral_time integrator error dt =
     let proportional = gain ⊗ error in
     let unlimited = proportional ⊕ integrator in
     let limited = clamp unlimited zero (decimal 1 1) in
-    let anti_windup = (unlimited ⊖ limited) ⊘ (gain ⊗ ANTI_WINDUP_NI) in
+    let anti_windup = (unlimited ⊖ limited) ⊘ (gain ⊗ WINDUP_SHARE) in
     integrator ⊕ (gain ⊘ integral_time) ⊗ (error ⊖ anti_windup) ⊗ dt

@@ -3,7 +3,8 @@
 -- The text is that of CdlRecurrences.antt, Timing.antt, Conditioning.antt, Airflow.antt and Controller.antt, which have the source's order and
 -- names, word for word but for `h`, the helpers: each definition of theirs that reaches one of the five stands here with `_over` behind its name.
 -- What reaches none is theirs: `less_hysteretic`, `greater_hysteretic`, `initial_sample_time`, `timer_elapsed`, `latch`, `active_airflow`,
--- `request_level`. `same_text` (proofs/PublishedSame.antt): over document 01's helpers this is their `controller_output`.
+-- `request_level`. Over document 01's helpers this is their `controller_output` (`same_text`). That every call of the five goes over `h` is seen
+-- by reading: `same_text` would hold of a call that did not, too.
 use Rattle.std.specs.Prelude.{Some, None, Option, Bool, true, false, not, ◌&&◌, ◌||◌, ℤ, pos, Float, if◌then◌else◌}
 use Rattle.std.specs.Int.Signed.{lt_z}
 use Rattle.std.specs.Float.Ieee.{neg}

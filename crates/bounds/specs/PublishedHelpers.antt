@@ -16,7 +16,7 @@ pub record Helpers : Type 0 where
   pub max : Float → Float → Float
   pub min : Float → Float → Float
 
--- document 01's: today's definitions
+-- document 01's: the delivered definitions
 abbrev pub document_01 : Helpers
 document_01 =
     record {
