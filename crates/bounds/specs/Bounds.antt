@@ -50,7 +50,8 @@ pub record Built (choices : Choices) : Type 0 where
 -- ---- N8
 pub record Bounds : Type 0 where
   -- after any ticks both loop integrators lie from -64 to 64 and the damper's from -16 to 16
-  pub integrators : (start : Start) (second_reading : Bool) (ticks : List Tick) → IntegratorsInBounds (decimal 16 1) (grown (usual_size start second_reading) ticks)
+  pub integrators : (start : Start) (second_reading : Bool) (ticks : List Tick)
+      → IntegratorsInBounds (decimal 16 1) (grown (usual_size start second_reading) ticks)
   -- the outputs that any further tick is given lie in their ranges
   pub outputs : (start : Start) (second_reading : Bool) (ticks : List Tick) (k : Tick) (output : ControllerOutput)
       → given_for (grown (usual_size start second_reading) ticks) k ≡ inl output → OutputsInBounds (decimal 15 10) output
