@@ -1,15 +1,14 @@
 -- The damper keeps its ranges over an accepted tick: the airflow setpoint lies from 0 to the cooling maximum, and the integrator in its range, which the box's size decides. Assumes nothing.
-use Rattle.std.proofs.Common.{◌≡◌, refl, ℕ, zero as none, suc, ◌*◌, Bool, true, false, not, ◌&&◌, T, sym, subst, ℤ, pos, negsuc, if◌then◌else◌, Some, Option, eqb→eq, mul_comm, one-mul, mul-one, mul-pos, zero-lt-suc, ◌∙◌}
+use Rattle.std.proofs.Common.{refl, ℕ, Bool, true, false, not, ◌&&◌, T, sym, subst, ℤ, pos, negsuc, if◌then◌else◌, Some, Option, eqb→eq}
 use Rattle.std.specs.Int.Signed.{le_z}
-use lib.Ieee.{Float, fin, binary64, up, down, round, neg, add, sub, mul, div, lt, eq, le}
-use lib.Ieee.Fits.{up_pos, down_pos, and_l, and_r}
-use lib.Ieee.Scale.{round_same}
-use Rattle.std.proofs.lemmas.Float.{le_trans, lt_of_lt_of_le}
-use Rattle.f64_helpers.specs.F64.{◌⊕◌, ◌⊖◌, ◌⊗◌, ◌⊘◌, ◌<ᶠ◌, ◌≤ᶠ◌, decimal, zero}
+use lib.Ieee.{Float, round, neg, add, sub, mul, div, lt, eq, le}
+use lib.Ieee.Fits.{and_l, and_r}
+use Rattle.std.proofs.lemmas.Float.{le_trans}
+use Rattle.f64_helpers.specs.F64.{◌⊕◌, ◌⊖◌, ◌⊗◌, ◌⊘◌, ◌≤ᶠ◌, decimal, zero}
 use Rattle.f64_helpers.specs.Integers.{◌==ᶻ◌}
 use Rattle.f64_helpers.specs.Ranges.{Between, Finite}
 use Rattle.f64_helpers.proofs.Intervals.{finite_between, add_in, sub_in, mul_in_turned, div_in, if_in}
-use Rattle.f64_helpers.proofs.Monotone.{div_mono, div_is, above_zero}
+use Rattle.f64_helpers.proofs.Monotone.{div_mono, self_quotient}
 use Rattle.box_choices.specs.declared.Choices.{Choices}
 use Rattle.cdl_recurrences.specs.CdlRecurrences.{buildings_line, clamp, greater_hysteretic}
 use Rattle.cdl_recurrences.proofs.Ranges.{clamp_unit}
@@ -24,17 +23,7 @@ use Rattle.bounds.specs.Kept.{KeptDamper}
 use Rattle.bounds.proofs.Pi.{damper_next, any_damper_next}
 use Rattle.bounds.proofs.Timing.{Accepted}
 use Rattle.bounds.proofs.Loops.{dt_in}
-use Rattle.bounds.proofs.Flows.{FlowsIn, Flow, no_flow, chosen_flow, flow_line, at_minimum, at_maximum, maximum_finite}
-
--- ---- a number over itself
-
-over_itself : (n : ℕ) (d : ℤ) → div binary64 (fin false (suc n) d) (fin false (suc n) d) ≡ decimal 1 1
-over_itself n d =
-    div_is false (suc n) d n d
-    ∙ round_same binary64 false (suc n * up d * down d) (down d * (suc n * up d)) 1 1 (mul-pos (down_pos d) (mul-pos (zero-lt-suc n) (up_pos d))) (zero-lt-suc none) (mul-one (suc n * up d * down d) ∙ mul_comm (suc n * up d) (down d) ∙ sym (one-mul (down d * (suc n * up d))))
-
-self_quotient : (x : Float) → Finite x → T (zero <ᶠ x) → x ⊘ x ≡ decimal 1 1
-self_quotient x f h = let a = above_zero x f h in subst (λ (x : Float). x ⊘ x ≡ decimal 1 1) (sym a.is) (over_itself a.size a.power)
+use Rattle.bounds.proofs.Flows.{FlowsIn, Flow, no_flow, chosen_flow, flow_line, at_minimum, at_maximum, maximum_finite, maximum_above_zero}
 
 -- ---- what a box's size decides: the cooling maximum is at least `smallest`
 
@@ -134,13 +123,10 @@ module _ (choices : Choices) (f : FlowsIn choices) (s : DamperState) (input : Da
   abbrev step : Step DamperState DamperOutput
   step = damper s t input choices
 
-  signal_finite : Finite input.cooling_loop
-  unfolding round
-  signal_finite = finite_between tt tt signal
-
   -- the setpoint before the override
   mapped_in : Flow choices.design_cooling_maximum_flow (buildings_line zero input.active_minimum_flow (decimal 1 1) input.active_cooling_maximum_flow input.cooling_loop)
-  mapped_in = flow_line choices f minimum maximum input.cooling_loop signal_finite order
+  unfolding round
+  mapped_in = flow_line choices f minimum maximum input.cooling_loop (finite_between tt tt signal) order
 
   pub airflow_setpoint_in : Flow choices.design_cooling_maximum_flow step.output.airflow_setpoint
   unfolding damper
@@ -161,19 +147,16 @@ module _ (choices : Choices) (f : FlowsIn choices) (s : DamperState) (input : Da
       let wide : Between zero x (decimal 10 1) = record { from_low = b.from_low; to_high = le_trans x choices.design_cooling_maximum_flow (decimal 10 1) b.to_high f.maximum.to_high } in
       div_in wide f.maximum tt
 
-  maximum_above_zero : T (zero <ᶠ choices.design_cooling_maximum_flow)
-  unfolding round lt
-  maximum_above_zero = lt_of_lt_of_le zero (decimal 1 10) choices.design_cooling_maximum_flow tt f.maximum.from_low
-
   pub normalized_in : Between zero (step.output.airflow_setpoint ⊘ choices.design_cooling_maximum_flow) (decimal 1 1)
   normalized_in =
       let M = choices.design_cooling_maximum_flow in
       let b = airflow_setpoint_in.range in
       let F = maximum_finite choices f in
+      let above = maximum_above_zero choices f in
       record {
         from_low = (quotient_from_zero b).from_low;
-        to_high = subst (λ (z : Float). T (step.output.airflow_setpoint ⊘ M ≤ᶠ z)) (self_quotient M F maximum_above_zero)
-            (div_mono step.output.airflow_setpoint M M (finite_between tt F b) F F maximum_above_zero b.to_high);
+        to_high = subst (λ (z : Float). T (step.output.airflow_setpoint ⊘ M ≤ᶠ z)) (self_quotient M F above)
+            (div_mono step.output.airflow_setpoint M M (finite_between tt F b) F F above b.to_high);
       }
 
   -- ---- the PI
@@ -183,8 +166,12 @@ module _ (choices : Choices) (f : FlowsIn choices) (s : DamperState) (input : Da
   error_range : Between (neg error) error_of error
   error_range = z.error_in normalized_in flow large
 
+  -- the PI before its limits
+  pub unlimited_finite : Finite (DAMPER_GAIN ⊗ error_of ⊕ s.integrator)
+  unlimited_finite = z.unlimited_finite error_range k.integrator
+
   pid_in : Between zero (clamp (DAMPER_GAIN ⊗ error_of ⊕ s.integrator) zero (decimal 1 1)) (decimal 1 1)
-  pid_in = clamp_unit (DAMPER_GAIN ⊗ error_of ⊕ s.integrator) (z.unlimited_finite error_range k.integrator)
+  pid_in = clamp_unit (DAMPER_GAIN ⊗ error_of ⊕ s.integrator) unlimited_finite
 
   command_zero : Between zero zero (decimal 1 1)
   unfolding round le lt eq

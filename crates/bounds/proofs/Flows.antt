@@ -2,8 +2,8 @@
 use Rattle.std.proofs.Common.{Bool, true, false, T, if◌then◌else◌}
 use lib.Ieee.{Float, binary64, round, neg, add, div, lt, eq, le, fits}
 use lib.Ieee.Fits.{add-fits}
-use Rattle.std.proofs.lemmas.Float.{le_refl, le_trans}
-use Rattle.f64_helpers.specs.F64.{◌⊕◌, ◌⊖◌, ◌≤ᶠ◌, decimal, zero}
+use Rattle.std.proofs.lemmas.Float.{le_refl, le_trans, lt_of_lt_of_le}
+use Rattle.f64_helpers.specs.F64.{◌⊕◌, ◌⊖◌, ◌≤ᶠ◌, decimal, zero, ◌<ᶠ◌}
 use Rattle.f64_helpers.specs.Integers.{◌==ᶻ◌}
 use Rattle.f64_helpers.specs.Ranges.{Between, Finite}
 use Rattle.f64_helpers.proofs.Intervals.{finite_between, finite_number, add_in, div_in, if_in}
@@ -36,6 +36,10 @@ module _ (choices : Choices) (f : FlowsIn choices) where
   pub maximum_finite : Finite M
   unfolding round
   maximum_finite = finite_between tt tt f.maximum
+
+  pub maximum_above_zero : T (zero <ᶠ M)
+  unfolding round lt
+  maximum_above_zero = lt_of_lt_of_le zero (decimal 1 10) M tt f.maximum.from_low
 
   pub maximum_from_zero : Between zero M M
   unfolding round le lt eq

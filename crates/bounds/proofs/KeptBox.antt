@@ -1,9 +1,8 @@
 -- What a box keeps (Kept.antt): a fresh box has it, an accepted tick keeps it, and with it the outputs lie in their ranges. Assumes nothing.
 use Rattle.std.proofs.Common.{refl, T, Some, None, lit≤}
 use lib.Ieee.{Float, round, neg, lt, eq, le}
-use Rattle.f64_helpers.specs.F64.{◌⊘◌, ◌≤ᶠ◌, decimal, zero}
+use Rattle.f64_helpers.specs.F64.{◌⊘◌, ◌≤ᶠ◌, decimal, zero, ◌⊕◌, ◌⊖◌, ◌⊗◌}
 use Rattle.f64_helpers.specs.Ranges.{Between, Finite}
-use Rattle.f64_helpers.proofs.Intervals.{finite_between}
 use Rattle.f64_helpers.proofs.WholeSeconds.{zero_whole}
 use Rattle.box_choices.specs.declared.Choices.{Choices}
 use Rattle.cooling_only_controller_conditioning.specs.Conditioning.{active_airflow, setpoints, control_loops, zone_states}
@@ -23,7 +22,7 @@ use Rattle.air_box.specs.Demand1.{AllYes}
 use Rattle.air_box.specs.Demand2.{controller_step_of}
 use Rattle.air_box.specs.declared.Tick.{Tick}
 use Rattle.air_box.specs.declared.AirBox.{AirBox}
-use Rattle.bounds.specs.Limits.{HOTTEST, HIGHEST_FLOW}
+use Rattle.bounds.specs.Limits.{HOTTEST, HIGHEST_FLOW, DAMPER_GAIN}
 use Rattle.bounds.specs.Kept.{KeptGrid, KeptControlLoops, KeptDamper, KeptBox}
 use Rattle.bounds.specs.Bounds.{OutputsInBounds}
 use Rattle.bounds.proofs.Accepted.{Readings, readings_in, accepted}
@@ -31,7 +30,7 @@ use Rattle.bounds.proofs.Timing.{Accepted, fresh_kept, lengths}
 use Rattle.bounds.proofs.Suppression.{kept_time_suppression}
 use Rattle.bounds.proofs.Loops.{kept_control_loops}
 use Rattle.bounds.proofs.Flows.{FlowsIn, Flow, maximum_from_zero, occupied_minimum_in, population_in, area_in, minimum_outdoor_in}
-use Rattle.bounds.proofs.Damper.{Size, active_in, active_maximum_in, active_order, airflow_setpoint_in, normalized_in, damper_command_in, kept_damper}
+use Rattle.bounds.proofs.Damper.{Size, active_in, active_maximum_in, active_order, airflow_setpoint_in, damper_command_in, kept_damper, unlimited_finite}
 use Rattle.bounds.proofs.Requests.{kept_system_requests, kept_alarms}
 
 -- ---- a fresh box
@@ -132,7 +131,7 @@ module _ (box : AirBox) (f : FlowsIn box.choices) {smallest error end : Float} (
   readings : Readings i
   readings = readings_in box.last_time k all
 
-  loops_kept : KeptControlLoops (Some k.t) loops.state × Between zero loops.output.cooling (decimal 1 1) × Between zero loops.output.heating (decimal 1 1)
+  pub loops_kept : KeptControlLoops (Some k.t) loops.state × Between zero loops.output.cooling (decimal 1 1) × Between zero loops.output.heating (decimal 1 1)
   loops_kept = kept_control_loops step_of s.control_loops kept.control_loops readings.cooling_setpoint readings.zone_temperature readings.heating_setpoint
 
   occupied_in : Flow box.choices.design_cooling_maximum_flow occupied_minimum
@@ -156,13 +155,11 @@ module _ (box : AirBox) (f : FlowsIn box.choices) {smallest error end : Float} (
   command_in : Between zero dampers.output.damper_command (decimal 1 1)
   command_in = damper_command_in box.choices f s.dampers to_damper minimum_in maximum_in order loops_kept.1 readings.discharge_airflow step_of z large kept.dampers
 
-  normalized_setpoint_in : Between zero (dampers.output.airflow_setpoint ⊘ box.choices.design_cooling_maximum_flow) (decimal 1 1)
-  normalized_setpoint_in = normalized_in box.choices f s.dampers to_damper minimum_in maximum_in order loops_kept.1 readings.discharge_airflow step_of z large kept.dampers
-
-  -- what the damper divides
-  pub normalized_setpoint_finite : Finite ((controller_step_of box k).output.airflow_setpoint ⊘ box.choices.design_cooling_maximum_flow)
-  unfolding controller_output round
-  normalized_setpoint_finite = finite_between tt tt normalized_setpoint_in
+  -- the damper's PI before its limits
+  pub damper_unlimited_finite :
+      Finite (DAMPER_GAIN ⊗ ((controller_step_of box k).output.airflow_setpoint ⊘ box.choices.design_cooling_maximum_flow ⊖ i.discharge_airflow ⊘ box.choices.design_cooling_maximum_flow) ⊕ s.dampers.integrator)
+  unfolding controller_output
+  damper_unlimited_finite = unlimited_finite box.choices f s.dampers to_damper minimum_in maximum_in order loops_kept.1 readings.discharge_airflow step_of z large kept.dampers
 
   dampers_kept : KeptDamper (Some k.t) end dampers.state
   dampers_kept = kept_damper box.choices f s.dampers to_damper minimum_in maximum_in order loops_kept.1 readings.discharge_airflow step_of z large kept.dampers

@@ -12,7 +12,6 @@ pub mod Suppression
 pub mod Requests
 pub mod Accepted
 mod PublishedSame
-mod PublishedNumbers
 mod PublishedBlocks
 pub mod PublishedStages
 pub mod Signs

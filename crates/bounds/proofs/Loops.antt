@@ -28,7 +28,7 @@ pub error_in : {x y : Float} → Between COLDEST x HOTTEST → Between COLDEST y
 unfolding round neg add sub le lt eq
 error_in p q = sub_in p q tt
 
-module _ {last : Option Float} {t : Float} (a : Accepted last t) (s : LoopPiState) (k : KeptLoopPi last s) (error : Float) (e : Between (neg (HOTTEST ⊖ COLDEST)) error (HOTTEST ⊖ COLDEST)) (trigger : Bool) where
+module _ {last : Option Float} {t : Float} (a : Accepted last t) (s : LoopPiState) (k : KeptLoopPi last s) (error : Float) (e : Between (neg (HOTTEST ⊖ COLDEST)) error (HOTTEST ⊖ COLDEST)) where
   proportional_in : Between (neg (decimal 31 1)) (LOOP_GAIN ⊗ error) (decimal 31 1)
   unfolding round neg add sub mul le lt eq
   proportional_in = let g : Between zero LOOP_GAIN LOOP_GAIN = record { from_low = tt; to_high = tt } in mul_in_turned e g tt
@@ -37,13 +37,14 @@ module _ {last : Option Float} {t : Float} (a : Accepted last t) (s : LoopPiStat
   unfolding round neg add sub mul le lt eq
   reset_in = neg_in proportional_in tt
 
-  unlimited_finite : Finite (LOOP_GAIN ⊗ error ⊕ s.integrator)
+  -- the PI before its limits
+  pub unlimited_finite : Finite (LOOP_GAIN ⊗ error ⊕ s.integrator)
   unfolding round neg add sub mul le lt eq
   unlimited_finite = let u : Between (neg (decimal 95 1)) (LOOP_GAIN ⊗ error ⊕ s.integrator) (decimal 95 1) = add_in proportional_in k.integrator tt in finite_between tt tt u
 
-  pub kept_loop_pi : KeptLoopPi (Some t) (loop_pi s t error trigger).state × Between zero (loop_pi s t error trigger).output (decimal 1 1)
+  pub kept_loop_pi : (trigger : Bool) → KeptLoopPi (Some t) (loop_pi s t error trigger).state × Between zero (loop_pi s t error trigger).output (decimal 1 1)
   unfolding loop_pi next_integrator
-  kept_loop_pi = (
+  kept_loop_pi trigger = (
     record { integrator = if_in (trigger && not s.previous_trigger) _ _ reset_in (loop_next e k.integrator (dt_in a s.previous_time k.previous_time)); previous_time = refl },
     clamp_unit (LOOP_GAIN ⊗ error ⊕ s.integrator) unlimited_finite,
   )

@@ -1,10 +1,10 @@
 -- Both integrators stay in their range. Where an integrator is high, the anti-windup outweighs the error and it does not rise; where it is not, one step cannot carry it
 -- over. So the range is cut in pieces, a row of numbers for each: those above for the upper end, those below for the lower one. Each row is checked by computing. Assumes nothing.
-use Rattle.std.proofs.Common.{ℕ, T, ◌⊎◌, inl, inr}
+use Rattle.std.proofs.Common.{ℕ, T, inl, inr}
 use lib.Ieee.{Float, round, neg, add, sub, mul, div, lt, eq, le}
 use Rattle.f64_helpers.specs.F64.{◌⊖◌, ◌≤ᶠ◌, decimal, zero}
-use Rattle.f64_helpers.specs.Ranges.{Between, Finite}
-use Rattle.f64_helpers.proofs.Intervals.{finite_between, at_most_or_least}
+use Rattle.f64_helpers.specs.Ranges.{Between}
+use Rattle.f64_helpers.proofs.Intervals.{cut}
 use Rattle.bounds.specs.Limits.{LONGEST_STEP, COLDEST, HOTTEST, LOOP_GAIN, LOOP_INTEGRAL_TIME, DAMPER_GAIN, DAMPER_INTEGRAL_TIME, next_integrator}
 use Rattle.bounds.proofs.PiRange.{Tests, next_in}
 
@@ -14,11 +14,6 @@ n k = decimal k 1
 
 abbrev m : ℕ → Float
 m k = neg (decimal k 1)
-
--- either end of a range cut at k
-cut : {low x high : Float} (k : Float) → Finite low → Finite high → Finite k → Between low x high → Between low x k ⊎ Between k x high
-cut {low} {x} {high} k f g K b =
-    elim (at_most_or_least x k (finite_between f g b) K) [ inl h ↦ inl (record { from_low = b.from_low; to_high = h }) | inr h ↦ inr (record { from_low = h; to_high = b.to_high }) ]
 
 -- ---- the control loops
 -- A piece: an error from a to b and an integrator from p to q give a drive from f to g, and a next integrator from low to high.

@@ -1,13 +1,12 @@
 -- The published forms of the helpers beside document 01's, at what a block is handed. `max` and `min` stand for any that Rust allows. Assumes nothing.
-use Rattle.std.proofs.Common.{◌≡◌, ℕ, zero, suc, ◌+◌, ◌-◌, ◌*◌, ◌/◌, ◌^◌, ◌<◌, ◌≤◌, Bool, true, false, cond, not, ◌&&◌, ◌||◌, T, eqb, ltb, ◌⊎◌, ℤ, pos, negsuc, sym, refl, ap, ◌∙◌, subst, inl, inr, ⊎_elim, Option, Some, None, ap₂, add-mul, one-mul, div-le_self, div-mul-le_self, zero-mul, mul-zero, mul-one, mul-pos, mul-le-mul_right, zero-lt-suc, add-zero, mul_assoc, mul_comm, mul_right_comm, true≢false, eqb→eq, T_not, arith, lit≤}
-use mathlib.Core.Bool.{beq}
-use native.Mathlib.Nat.{eq-zero-or-pos, mul-mul-mul_comm, lt-div-mul-add, le_trans as le_trans_nat, le_of_eq as le_of_eq_nat}
-use lib.Dec.{eqb-suc-zero}
-use Rattle.std.proofs.lemmas.Bool.{lt-ltb}
-use lib.Ieee.{Float, nan, inf, fin, binary64, low, up, down, level, unlike, round, sum, add, mul, lt, eq, le, is_nan, fits}
-use lib.Ieee.Fits.{and_l, and_r, down_pos, up_pos}
-use lib.Ieee.Scale.{round_same}
-use Rattle.std.proofs.lemmas.Float.{le_refl, lt_irrefl, lt_trans, lt_of_lt_of_le, le_of_not-lt, lt-or-eq, le_left, le_right, le_trans, le_of_lt, le_of_eq, eq_flip, eq_trans}
+use Rattle.std.proofs.Common.{◌≡◌, ℕ, ◌+◌, ◌-◌, ◌*◌, ◌/◌, ◌^◌, ◌<◌, ◌≤◌, Bool, true, false, cond, not, ◌&&◌, ◌||◌, T, ◌⊎◌, ℤ, pos, negsuc, sym, refl, ap, ◌∙◌, subst, inl, inr, ⊎_elim, Option, Some, None, ap₂, add-mul, one-mul, div-le_self, div-mul-le_self, mul-one, mul-pos, mul-le-mul_right, zero-lt-suc, mul_assoc, mul_comm, mul_right_comm, true≢false, arith, lit≤}
+use mathlib.Core.Bool.{and-false}
+use native.Mathlib.Nat.{lt-div-mul-add, le_trans as le_trans_nat, le_of_eq as le_of_eq_nat}
+use lib.Dec.{not_T}
+use Rattle.std.proofs.lemmas.Bool.{cond_both}
+use lib.Ieee.{Float, fin, binary64, low, up, down, round, sum, add, lt, eq, le, is_nan, fits}
+use lib.Ieee.Fits.{and_l, and_r, down_pos}
+use Rattle.std.proofs.lemmas.Float.{le_refl, lt_irrefl, lt_trans, lt_of_lt_of_le, le_of_not-lt, le_left, le_right, le_trans, le_of_lt, le_of_eq, eq_flip, eq_trans}
 use Rattle.f64_helpers.specs.F64.{◌⊕◌, ◌⊖◌, ◌⊗◌, ◌⊘◌, decimal, zero as zeroᶠ}
 use Rattle.f64_helpers.specs.Helpers as Today
 use Rattle.f64_helpers.specs.Helpers.{floor, negative, both_zero}
@@ -15,7 +14,6 @@ use Rattle.f64_helpers.specs.Ranges.{NotMinusZero}
 use Rattle.f64_helpers.specs.Seconds.{Whole, IsTime, seconds}
 use Rattle.f64_helpers.proofs.Order.{le_numbers, lt_is_not_le}
 use Rattle.f64_helpers.proofs.Quotients.{Within, round_zero, div_is, sign_whole, next_below, rounded_within, floor_within, as_i64_whole, whole_held, fraction_held}
-use Rattle.f64_helpers.proofs.Values.{zero_of_eq}
 use Rattle.f64_helpers.proofs.WholeSeconds.{sub_whole}
 use Rattle.f64_helpers.proofs.Times.{decimal_whole}
 use Rattle.cdl_recurrences.specs.CdlRecurrences.{clamp, hysteresis, sample_index, sample_due, sampler_output, initial_sample_time, true_delay_output, buildings_line}
@@ -26,6 +24,9 @@ use Rattle.cooling_only_controller_timing.specs.declared.UnitDelayState.{UnitDel
 use Rattle.cooling_only_controller_timing.specs.declared.TrueDelayState.{TrueDelayState}
 use Rattle.bounds.specs.PublishedHelpers.{published, published_clamp, published_hysteresis, published_sample_index, RustMax, RustMin}
 use Rattle.bounds.specs.PublishedController.{buildings_line_over, true_delay_output_over, sample_due_over, sampler_output_over, sampler_sample_over, unit_delay_sample_over, true_delay_over, step_seconds_over}
+use Rattle.f64_helpers.proofs.Tests.{yes}
+use Rattle.f64_helpers.proofs.EqualNumbers.{equal_of_le, equal_to_itself, zeros_equal, zero_not_nan, zeros_alike, zeros_not_below, plain_zero, sign_hidden, sum_same}
+use lib.Ieee.Bits.{is_true, is_false}
 
 -- ---- `hysteresis`, where u is a number and the low end is not above the high end
 pub hysteresis_same : (u low high : Float) (previous : Bool) → T (not (is_nan u)) → T (le low high) → published_hysteresis u low high previous ≡ hysteresis u low high previous
@@ -42,39 +43,12 @@ hysteresis_same u low high previous n h =
     go false false true f = refl
     go false false false f = refl
 
--- ---- zeros
-pub zeros_equal : (s : Bool) → T (eq (fin s 0 (pos 0)) zeroᶠ)
-unfolding eq
-zeros_equal true = tt
-zeros_equal false = tt
-
-zero_not_nan : (x : Float) → T (eq x zeroᶠ) → is_nan x ≡ false
-unfolding eq is_nan
-zero_not_nan nan h = absurd h
-zero_not_nan (inf s) h = refl
-zero_not_nan (fin s m e) h = refl
-
-to_T : {b : Bool} → b ≡ true → T b
-to_T e = subst T (sym e) tt
-
-pub not_T_is : (b : Bool) → T (not b) → b ≡ false
-not_T_is true h = absurd h
-not_T_is false h = refl
-
--- of two numbers that are zeros neither is below the other
-zeros_not_below : (x y : Float) → T (eq x zeroᶠ) → T (eq y zeroᶠ) → lt x y ≡ false
-zeros_not_below x y p q = not_T_is (lt x y) (go (lt x y) (λ l. lt_irrefl x (lt_of_lt_of_le x y x l (le_of_eq y x (eq_trans y zeroᶠ x q (eq_flip x zeroᶠ p))))))
-  where
-    go : (b : Bool) → (T b → ⊥) → T (not b)
-    go true f = f tt
-    go false f = tt
-
--- document 01's `max` and `min` are among those that Rust allows
+-- ---- document 01's `max` and `min` are among those that Rust allows
 both_l : (x y : Float) → both_zero x y ≡ true → T (eq x zeroᶠ)
-both_l x y e = and_l (eq x zeroᶠ) (eq y zeroᶠ) (to_T e)
+both_l x y e = and_l (eq x zeroᶠ) (eq y zeroᶠ) (yes e)
 
 both_r : (x y : Float) → both_zero x y ≡ true → T (eq y zeroᶠ)
-both_r x y e = and_r (eq x zeroᶠ) (eq y zeroᶠ) (to_T e)
+both_r x y e = and_r (eq x zeroᶠ) (eq y zeroᶠ) (yes e)
 
 one_sign : (s t : Bool) → (fin (s && t) 0 (pos 0) ≡ fin s 0 (pos 0)) ⊎ (fin (s && t) 0 (pos 0) ≡ fin t 0 (pos 0))
 one_sign true t = inr refl
@@ -98,187 +72,43 @@ todays_max = record { off_zeros = λ x y e. refl; of_zeros = λ x y e. rw (max_o
 pub todays_min : RustMin Today.min
 todays_min = record { off_zeros = λ x y e. refl; of_zeros = λ x y e. rw (min_of_zeros x y e) (either_sign (negative x) (negative y)) }
 
--- ---- `max` and `min` of zeros, and beside a number that is none
-zero_by : {x y : Float} → x ≡ y → T (eq y zeroᶠ) → T (eq x zeroᶠ)
-zero_by e h = subst (λ (z : Float). T (eq z zeroᶠ)) (sym e) h
+-- ---- the one that is picked of two numbers, by a comparison: off zeros it is that one, and of zeros it is equal to it
+-- one of two zeros, of a sign of its own
+one_zero : {z : Float} {s t : Bool} (P : Float → Type 0) → ((r : Bool) → P (fin r 0 (pos 0))) → (z ≡ fin s 0 (pos 0)) ⊎ (z ≡ fin t 0 (pos 0)) → P z
+one_zero {z} {s} {t} P f c = ⊎_elim (λ e. subst P (sym e) (f s)) (λ e. subst P (sym e) (f t)) c
 
-one_of_two_zeros : (z : Float) (s t : Bool) → (z ≡ fin s 0 (pos 0)) ⊎ (z ≡ fin t 0 (pos 0)) → T (eq z zeroᶠ)
-one_of_two_zeros z s t c = ⊎_elim (λ e. zero_by e (zeros_equal s)) (λ e. zero_by e (zeros_equal t)) c
+is_zero : {z : Float} {s t : Bool} → (z ≡ fin s 0 (pos 0)) ⊎ (z ≡ fin t 0 (pos 0)) → T (eq z zeroᶠ)
+is_zero c = one_zero (λ z. T (eq z zeroᶠ)) zeros_equal c
 
-zeros_alike : (x y : Float) → T (eq x zeroᶠ) → T (eq y zeroᶠ) → T (eq x y)
-zeros_alike x y p q = eq_trans x zeroᶠ y p (eq_flip y zeroᶠ q)
+picked : (z x y : Float) (second : Bool) → T (not (is_nan x)) → T (not (is_nan y)) → (both_zero x y ≡ false → z ≡ cond second y x)
+    → (both_zero x y ≡ true → (z ≡ fin (negative x) 0 (pos 0)) ⊎ (z ≡ fin (negative y) 0 (pos 0))) → T (eq z (cond second y x))
+picked z x y second n m off zeros = go (both_zero x y) refl
+  where
+    one : Float
+    one = cond second y x
 
-equal_to_itself : (x : Float) → T (not (is_nan x)) → T (eq x x)
-equal_to_itself x n = ⊎_elim (λ l. absurd (lt_irrefl x l)) (λ e. e) (lt-or-eq x x (le_refl x n))
+    number : T (not (is_nan one))
+    number = cond_both second y x (λ (v : Float). T (not (is_nan v))) (λ e. m) (λ e. n)
 
-equal_by : {x y : Float} → T (not (is_nan y)) → x ≡ y → T (eq x y)
-equal_by {x} {y} n e = subst (λ (z : Float). T (eq z y)) (sym e) (equal_to_itself y n)
+    go : (b : Bool) → both_zero x y ≡ b → T (eq z one)
+    go true e = zeros_alike z one (is_zero (zeros e)) (cond_both second y x (λ (v : Float). T (eq v zeroᶠ)) (λ p. both_r x y e) (λ p. both_l x y e))
+    go false e = subst (λ (v : Float). T (eq v one)) (sym (off e)) (equal_to_itself one number)
 
-chosen_zero : (b : Bool) (x y : Float) → T (eq x zeroᶠ) → T (eq y zeroᶠ) → T (eq (cond b x y) zeroᶠ)
-chosen_zero true x y p q = p
-chosen_zero false x y p q = q
-
--- x is no NaN
-abbrev pub Number : Float → Type 0
-Number x = T (not (is_nan x))
-
-pub chosen_number : (b : Bool) (x y : Float) → Number x → Number y → Number (cond b x y)
-chosen_number true x y p q = p
-chosen_number false x y p q = q
-
-module _ (max : Float → Float → Float) (rust : RustMax max) (x y : Float) where
-  -- off zeros the larger one, by the comparison alone
-  pub larger : T (not (is_nan x)) → both_zero x y ≡ false → max x y ≡ cond (lt x y) y x
+module _ (max : Float → Float → Float) (rust : RustMax max) (x y : Float) (n : T (not (is_nan x))) where
+  larger : both_zero x y ≡ false → max x y ≡ cond (lt x y) y x
   unfolding Today.max
-  larger n e = rust.off_zeros x y e ∙ rw (not_T_is (is_nan x) n, e) refl
+  larger e = rust.off_zeros x y e ∙ rw (is_false (is_nan x) n, e) refl
 
-  max_is_zero : both_zero x y ≡ true → T (eq (max x y) zeroᶠ)
-  max_is_zero e = one_of_two_zeros (max x y) (negative x) (negative y) (rust.of_zeros x y e)
+  larger_equal : T (not (is_nan y)) → T (eq (max x y) (cond (lt x y) y x))
+  larger_equal m = picked (max x y) x y (lt x y) n m larger (rust.of_zeros x y)
 
-  pub larger_equal : T (not (is_nan x)) → T (not (is_nan y)) → T (eq (max x y) (cond (lt x y) y x))
-  larger_equal n m = go (both_zero x y) refl
-    where
-      go : (b : Bool) → both_zero x y ≡ b → T (eq (max x y) (cond (lt x y) y x))
-      go true e = zeros_alike (max x y) (cond (lt x y) y x) (max_is_zero e) (chosen_zero (lt x y) y x (both_r x y e) (both_l x y e))
-      go false e = equal_by (chosen_number (lt x y) y x m n) (larger n e)
-
-module _ (min : Float → Float → Float) (rust : RustMin min) (x y : Float) where
-  -- off zeros the smaller one
-  pub smaller : T (not (is_nan x)) → both_zero x y ≡ false → min x y ≡ cond (lt y x) y x
+module _ (min : Float → Float → Float) (rust : RustMin min) (x y : Float) (n : T (not (is_nan x))) where
+  smaller : both_zero x y ≡ false → min x y ≡ cond (lt y x) y x
   unfolding Today.min
-  smaller n e = rust.off_zeros x y e ∙ rw (not_T_is (is_nan x) n, e) refl
+  smaller e = rust.off_zeros x y e ∙ rw (is_false (is_nan x) n, e) refl
 
-  min_is_zero : both_zero x y ≡ true → T (eq (min x y) zeroᶠ)
-  min_is_zero e = one_of_two_zeros (min x y) (negative x) (negative y) (rust.of_zeros x y e)
-
-  pub smaller_equal : T (not (is_nan x)) → T (not (is_nan y)) → T (eq (min x y) (cond (lt y x) y x))
-  smaller_equal n m = go (both_zero x y) refl
-    where
-      go : (b : Bool) → both_zero x y ≡ b → T (eq (min x y) (cond (lt y x) y x))
-      go true e = zeros_alike (min x y) (cond (lt y x) y x) (min_is_zero e) (chosen_zero (lt y x) y x (both_r x y e) (both_l x y e))
-      go false e = equal_by (chosen_number (lt y x) y x m n) (smaller n e)
-
--- ---- the sign of a zero that is added
-add_nothing : (s t : Bool) (a b c : ℕ) → b ≡ 0 → (T s → 0 < a) → sum binary64 s a t b c ≡ round binary64 s a c
-unfolding sum
-add_nothing s t a b c z h = rw z (go s t h)
-  where
-    not_below : ltb a 0 ≡ false
-    not_below = grind arith
-
-    less_nothing : a - 0 ≡ a
-    less_nothing = omega arith
-
-    go : (s t : Bool) → (T s → 0 < a) → cond (beq s t) (round binary64 s (a + 0) c) (cond (ltb a 0) (round binary64 t (0 - a) c) (round binary64 (s && ltb 0 a) (a - 0) c)) ≡ round binary64 s a c
-    go true true h = ap (λ (n : ℕ). round binary64 true n c) (add-zero a)
-    go false false h = ap (λ (n : ℕ). round binary64 false n c) (add-zero a)
-    go true false h = rw (not_below, lt-ltb 0 a (h tt), less_nothing)
-    go false true h = rw (not_below, less_nothing)
-
-level_zero : (a b : ℕ) → a ≡ 0 → b ≡ 0 → T (level true a false b)
-level_zero a b p q = rw (p, q) tt
-
-pub size_above_zero : (s : Bool) (m : ℕ) (e : ℤ) → NotMinusZero (fin s m e) → T s → 0 < m * up e * 1
-unfolding eq
-size_above_zero false m e n t = absurd t
-size_above_zero true m e n t = go (eq-zero-or-pos (m * up e * 1))
-  where
-    go : (m * up e * 1 ≡ 0) ⊎ (0 < m * up e * 1) → 0 < m * up e * 1
-    go (inl z) = absurd (T_not (level true (m * up e * 1) false (0 * 1 * down e)) n (level_zero (m * up e * 1) (0 * 1 * down e) z (zero-mul (down e))))
-    go (inr p) = p
-
--- A zero that is added to what is not -0.0 shows no sign.
-pub sign_hidden : (x : Float) (s t : Bool) → NotMinusZero x → x ⊕ fin s 0 (pos 0) ≡ x ⊕ fin t 0 (pos 0)
-unfolding add
-sign_hidden nan s t n = refl
-sign_hidden (inf r) s t n = refl
-sign_hidden (fin r m e) s t n =
-    let a = m * up e * 1 in
-    let b = 0 * 1 * down e in
-    let c = down e * 1 in
-    add_nothing r s a b c (zero-mul (down e)) (size_above_zero r m e n) ∙ sym (add_nothing r t a b c (zero-mul (down e)) (size_above_zero r m e n))
-
--- ---- a product with equal numbers is the same, or is a zero with either sign
-abbrev Signs : Float → Float → Type 0
-Signs x y = (s : Bool) × (t : Bool) × (x ≡ fin s 0 (pos 0)) × (y ≡ fin t 0 (pos 0))
-
-no_size : (a d : ℕ) → 0 < d → a * d ≡ 0 → a ≡ 0
-no_size a d D h = go (eq-zero-or-pos a)
-  where
-    go : (a ≡ 0) ⊎ (0 < a) → a ≡ 0
-    go (inl z) = z
-    go (inr p) = absurd (omega (arith, mul-pos p D))
-
-same_sign : (s t : Bool) → T (beq s t) → s ≡ t
-same_sign true true h = refl
-same_sign true false h = absurd h
-same_sign false true h = absurd h
-same_sign false false h = refl
-
--- what `eq` says of two finite numbers
-level_means : (s t : Bool) (a b : ℕ) → T (level s a t b) → (a ≡ b) × ((s ≡ t) ⊎ (a ≡ 0))
-level_means s t a b h = (eqb→eq a b (and_l (eqb a b) (beq s t || eqb a 0) h), go (beq s t) (same_sign s t) (and_r (eqb a b) (beq s t || eqb a 0) h))
-  where
-    go : (p : Bool) → (T p → s ≡ t) → T (p || eqb a 0) → (s ≡ t) ⊎ (a ≡ 0)
-    go true f h = inl (f tt)
-    go false f h = inr (eqb→eq a 0 h)
-
-first_zero : (m u d : ℕ) → 0 < u → 0 < d → m * u * d ≡ 0 → m ≡ 0
-first_zero m u d U D h = no_size m u U (no_size (m * u) d D h)
-
-some_size : (m u d : ℕ) → 0 < u → 0 < d → suc m * u * d ≡ 0 → ⊥
-some_size m u d U D h = omega (arith, first_zero (suc m) u d U D h)
-
-pub nothing_times : (u d : ℕ) → 0 * u * d ≡ 0
-nothing_times u d = ap (λ (z : ℕ). z * d) (zero-mul u) ∙ zero-mul d
-
-infinite_product : (r s t : Bool) (m n : ℕ) (e d : ℤ) → T (level s (m * up e * down d) t (n * up d * down e))
-    → cond (eqb m 0) nan (inf (unlike r s)) ≡ cond (eqb n 0) nan (inf (unlike r t))
-infinite_product r s t zero zero e d h = refl
-infinite_product r s t zero (suc n) e d h =
-    absurd (some_size n (up d) (down e) (up_pos d) (down_pos e) (sym (level_means s t (0 * up e * down d) (suc n * up d * down e) h).0 ∙ nothing_times (up e) (down d)))
-infinite_product r s t (suc m) zero e d h =
-    absurd (some_size m (up e) (down d) (up_pos e) (down_pos d) ((level_means s t (suc m * up e * down d) (0 * up d * down e) h).0 ∙ nothing_times (up d) (down e)))
-infinite_product r s t (suc m) (suc n) e d h =
-    rw (eqb-suc-zero m, eqb-suc-zero n)
-    (⊎_elim (λ same. ap (λ (s : Bool). inf (unlike r s)) same) (λ z. absurd (some_size m (up e) (down d) (up_pos e) (down_pos d) z)) (level_means s t (suc m * up e * down d) (suc n * up d * down e) h).1)
-
--- ±k / c times ±a / p and times ±b / q, where a / p is b / q
-finite_product : (r s t : Bool) (k c a p b q : ℕ) → 0 < c → 0 < p → 0 < q → a * q ≡ b * p → (s ≡ t) ⊎ (a * q ≡ 0)
-    → (round binary64 (unlike r s) (k * a) (c * p) ≡ round binary64 (unlike r t) (k * b) (c * q)) ⊎ Signs (round binary64 (unlike r s) (k * a) (c * p)) (round binary64 (unlike r t) (k * b) (c * q))
-finite_product r s t k c a p b q C P Q same (inl e) =
-    inl (ap (λ (s : Bool). round binary64 (unlike r s) (k * a) (c * p)) e
-    ∙ round_same binary64 (unlike r t) (k * a) (c * p) (k * b) (c * q) (mul-pos C P) (mul-pos C Q) (mul-mul-mul_comm k a c q ∙ ap (λ (z : ℕ). k * c * z) same ∙ mul-mul-mul_comm k c b p))
-finite_product r s t k c a p b q C P Q same (inr z) =
-    let a_zero : a ≡ 0 = no_size a q Q z in
-    let b_zero : b ≡ 0 = no_size b p P (sym same ∙ z) in
-    inr (
-      unlike r s,
-      unlike r t,
-      ap (λ (n : ℕ). round binary64 (unlike r s) n (c * p)) (ap (λ (n : ℕ). k * n) a_zero ∙ mul-zero k) ∙ round_zero (unlike r s) (c * p) (mul-pos C P),
-      ap (λ (n : ℕ). round binary64 (unlike r t) n (c * q)) (ap (λ (n : ℕ). k * n) b_zero ∙ mul-zero k) ∙ round_zero (unlike r t) (c * q) (mul-pos C Q),
-    )
-
-pub product_equal : (g x y : Float) → T (eq x y) → (g ⊗ x ≡ g ⊗ y) ⊎ Signs (g ⊗ x) (g ⊗ y)
-unfolding eq mul
-product_equal g nan y h = absurd h
-product_equal g (inf s) nan h = absurd h
-product_equal g (inf s) (fin t n d) h = absurd h
-product_equal g (fin s m e) nan h = absurd h
-product_equal g (fin s m e) (inf t) h = absurd h
-product_equal g (inf s) (inf t) h = inl (ap (λ (s : Bool). mul binary64 g (inf s)) (same_sign s t h))
-product_equal nan (fin s m e) (fin t n d) h = inl refl
-product_equal (inf r) (fin s m e) (fin t n d) h = inl (infinite_product r s t m n e d h)
-product_equal (fin r k c) (fin s m e) (fin t n d) h =
-    let means = level_means s t (m * up e * down d) (n * up d * down e) h in
-    finite_product r s t (k * up c) (down c) (m * up e) (down e) (n * up d) (down d) (down_pos c) (down_pos e) (down_pos d) means.0 means.1
-
--- So a sum with such a product is the same.
-pub sum_same : (b g x y : Float) → NotMinusZero b → T (eq x y) → b ⊕ g ⊗ x ≡ b ⊕ g ⊗ y
-sum_same b g x y n h =
-    ⊎_elim (λ e. ap (λ (z : Float). b ⊕ z) e)
-    (λ z. ap (λ (y : Float). b ⊕ y) z.2 ∙ sign_hidden b z.0 z.1 n ∙ sym (ap (λ (y : Float). b ⊕ y) z.3))
-    (product_equal g x y h)
+  smaller_equal : T (not (is_nan y)) → T (eq (min x y) (cond (lt y x) y x))
+  smaller_equal m = picked (min x y) x y (lt y x) n m smaller (rust.of_zeros x y)
 
 -- ---- `clamp`
 -- the value or, where it lies above, the high end
@@ -298,9 +128,6 @@ limited_ge value low high h k = go (lt high value)
     go : (b : Bool) → T (le low (cond b high value))
     go true = h
     go false = k
-
-equal_of_le : (x y : Float) → T (le x y) → T (le y x) → T (eq x y)
-equal_of_le x y h k = ⊎_elim (λ l. absurd (lt_irrefl x (lt_of_lt_of_le x y x l k))) (λ e. e) (lt-or-eq x y h)
 
 -- the larger of the low end and the smaller of the value and the high end is the value, limited
 clamp_numbers : (value low high m c : Float) → T (not (is_nan value)) → T (le low high) → T (eq m (limited value high)) → T (eq c (cond (lt low m) m low))
@@ -327,27 +154,15 @@ clamp_numbers value low high m c n h p q =
 
 one_no_zero : (x : Float) → both_zero x (decimal 1 1) ≡ false
 unfolding round eq
-one_no_zero x = go (eq x zeroᶠ)
-  where
-    go : (b : Bool) → (b && false) ≡ false
-    go true = refl
-    go false = refl
+one_no_zero x = and-false (eq x zeroᶠ)
 
-pub zero_below_one : T (lt zeroᶠ (decimal 1 1))
+zero_below_one : T (lt zeroᶠ (decimal 1 1))
 unfolding round lt
 zero_below_one = tt
 
-pub zero_number : T (not (is_nan zeroᶠ))
+zero_number : T (not (is_nan zeroᶠ))
 unfolding is_nan
 zero_number = tt
-
-T_is : (b : Bool) → T b → b ≡ true
-T_is true t = refl
-T_is false t = absurd t
-
-pub T_not_not : (b : Bool) → (T b → ⊥) → T (not b)
-T_not_not true f = f tt
-T_not_not false f = tt
 
 zero_beside : (x : Float) → both_zero zeroᶠ x ≡ eq x zeroᶠ
 unfolding eq
@@ -356,15 +171,6 @@ zero_beside x = refl
 zero_and_zero : (max : Float → Float → Float) → RustMax max → max zeroᶠ zeroᶠ ≡ cond (lt zeroᶠ zeroᶠ) zeroᶠ zeroᶠ
 unfolding eq lt
 zero_and_zero max rust = ⊎_elim (λ e. e) (λ e. e) (rust.of_zeros zeroᶠ zeroᶠ refl)
-
--- a zero that an f64 holds and that is not -0.0
-zero_is : (x : Float) → T (fits binary64 x) → NotMinusZero x → T (eq x zeroᶠ) → x ≡ zeroᶠ
-zero_is x f m z = zero_of_eq x f z ∙ ap (λ (s : Bool). fin s 0 (pos 0)) (go (negative x) (eq x zeroᶠ) m z)
-  where
-    go : (s b : Bool) → T (not (s && b)) → T b → s ≡ false
-    go true true m z = absurd m
-    go true false m z = absurd z
-    go false b m z = refl
 
 -- of a number that is no zero
 one_below : (x : Float) → T (not (is_nan x)) → (T (eq x zeroᶠ) → ⊥) → cond (lt zeroᶠ x) x zeroᶠ ≡ cond (lt x zeroᶠ) zeroᶠ x
@@ -378,7 +184,7 @@ one_below x n z = go (lt zeroᶠ x) (lt x zeroᶠ) (λ k. k) (λ k. k) (le_of_no
 
 module _ (max min : Float → Float → Float) (rust_max : RustMax max) (rust_min : RustMin min) where
   -- as numbers it is always the same, where the value is a number and the low end is not above the high end
-  pub clamp_equal : (value low high : Float) → T (not (is_nan value)) → T (le low high) → T (eq (published_clamp max min value low high) (clamp value low high))
+  clamp_equal : (value low high : Float) → T (not (is_nan value)) → T (le low high) → T (eq (published_clamp max min value low high) (clamp value low high))
   unfolding published_clamp clamp
   clamp_equal value low high n h =
       let m = min value high in
@@ -394,14 +200,14 @@ module _ (max min : Float → Float → Float) (rust_max : RustMax max) (rust_mi
       above : T (lt (decimal 1 1) value) → max zeroᶠ (decimal 1 1) ≡ cond (lt value zeroᶠ) zeroᶠ (decimal 1 1)
       above k =
           larger max rust_max zeroᶠ (decimal 1 1) zero_number (one_no_zero zeroᶠ)
-          ∙ rw (T_is (lt zeroᶠ (decimal 1 1)) zero_below_one, not_T_is (lt value zeroᶠ) (T_not_not (lt value zeroᶠ) (λ l. lt_irrefl value (lt_trans value zeroᶠ value l (lt_trans zeroᶠ (decimal 1 1) value zero_below_one k))))) refl
+          ∙ rw (is_true (lt zeroᶠ (decimal 1 1)) zero_below_one, is_false (lt value zeroᶠ) (not_T (lt value zeroᶠ) (λ l. lt_irrefl value (lt_trans value zeroᶠ value l (lt_trans zeroᶠ (decimal 1 1) value zero_below_one k))))) refl
 
       within : max zeroᶠ value ≡ cond (lt value zeroᶠ) zeroᶠ value
       within = by_zero (eq value zeroᶠ) refl
         where
           by_zero : (b : Bool) → eq value zeroᶠ ≡ b → max zeroᶠ value ≡ cond (lt value zeroᶠ) zeroᶠ value
-          by_zero true e = rw (zero_is value f m (to_T e)) (zero_and_zero max rust_max)
-          by_zero false e = larger max rust_max zeroᶠ value zero_number (zero_beside value ∙ e) ∙ one_below value n (λ k. true≢false (sym (T_is (eq value zeroᶠ) k) ∙ e))
+          by_zero true e = rw (plain_zero value f m (yes e)) (zero_and_zero max rust_max)
+          by_zero false e = larger max rust_max zeroᶠ value zero_number (zero_beside value ∙ e) ∙ one_below value n (λ k. true≢false (sym (is_true (eq value zeroᶠ) k) ∙ e))
 
       go : (b : Bool) → (T b → T (lt (decimal 1 1) value)) → max zeroᶠ (cond b (decimal 1 1) value) ≡ cond (lt value zeroᶠ) zeroᶠ (cond b (decimal 1 1) value)
       go true f = above (f tt)
@@ -463,7 +269,7 @@ floor_with_nano false a A z =
     (floor_within (fin false y.0 y.1 ⊕ fin false 4835703278458517 (negsuc 81)) q (q * 256 + 255) 256
     (sum_within y.0 y.1 4835703278458517 (negsuc 81) q (q * 128 + 127) (omega arith) refl y.3 y.4 (lit≤ tt)) (omega arith) (omega arith))
 
-pub sample_index_same : (t t0 : Float) (n m : ℕ) → Whole t n → Whole t0 m → m ≤ n → n ≤ 2147483648
+sample_index_same : (t t0 : Float) (n m : ℕ) → Whole t n → Whole t0 m → m ≤ n → n ≤ 2147483648
     → published_sample_index t t0 (decimal 120 1) ≡ sample_index t t0 (decimal 120 1)
 unfolding published_sample_index
 sample_index_same t t0 n m v u M N =
@@ -475,26 +281,23 @@ sample_index_same t t0 n m v u M N =
     (floor_with_nano (negative (t ⊖ t0)) (n - m) (omega arith) (sign_whole (t ⊖ t0) (n - m) since)) (omega (arith, div-le_self (n - m) 120)))
     ∙ sym (sample_index_whole t t0 (decimal 120 1) n m 120 v u M N period (zero-lt-suc 119) (lit≤ tt))
 
--- ---- the larger of a difference of times and 0.0, where it is added
+-- ---- the larger of a difference of times and 0.0, where the sign of a zero does not show
 module _ (max : Float → Float → Float) (rust : RustMax max) (d : Float) where
-  pub product_of_step : (x g : Float) → NotMinusZero x → x ⊕ g ⊗ max d zeroᶠ ≡ x ⊕ g ⊗ Today.max d zeroᶠ
-  product_of_step x g n = go (both_zero d zeroᶠ) refl
+  step_hidden : (shown : Float → Float) → ((s t : Bool) → shown (fin s 0 (pos 0)) ≡ shown (fin t 0 (pos 0))) → shown (max d zeroᶠ) ≡ shown (Today.max d zeroᶠ)
+  step_hidden shown hidden = go (both_zero d zeroᶠ) refl
     where
-      go : (b : Bool) → both_zero d zeroᶠ ≡ b → x ⊕ g ⊗ max d zeroᶠ ≡ x ⊕ g ⊗ Today.max d zeroᶠ
-      go true e = sum_same x g (max d zeroᶠ) (Today.max d zeroᶠ) n (zeros_alike (max d zeroᶠ) (Today.max d zeroᶠ) (max_is_zero max rust d zeroᶠ e) (max_is_zero Today.max todays_max d zeroᶠ e))
-      go false e = ap (λ (z : Float). x ⊕ g ⊗ z) (rust.off_zeros d zeroᶠ e)
+      of_zeros : {z : Float} {s t : Bool} → (z ≡ fin s 0 (pos 0)) ⊎ (z ≡ fin t 0 (pos 0)) → shown z ≡ shown zeroᶠ
+      of_zeros c = one_zero (λ z. shown z ≡ shown zeroᶠ) (λ r. hidden r false) c
 
-  pub step_added : (x : Float) → NotMinusZero x → x ⊕ max d zeroᶠ ≡ x ⊕ Today.max d zeroᶠ
-  step_added x n = go (both_zero d zeroᶠ) refl
-    where
-      one_zero : (z : Float) (s t : Bool) → (z ≡ fin s 0 (pos 0)) ⊎ (z ≡ fin t 0 (pos 0)) → x ⊕ z ≡ x ⊕ fin false 0 (pos 0)
-      one_zero z s t c = ⊎_elim (λ e. ap (λ (z : Float). x ⊕ z) e ∙ sign_hidden x s false n) (λ e. ap (λ (z : Float). x ⊕ z) e ∙ sign_hidden x t false n) c
+      go : (b : Bool) → both_zero d zeroᶠ ≡ b → shown (max d zeroᶠ) ≡ shown (Today.max d zeroᶠ)
+      go true e = of_zeros (rust.of_zeros d zeroᶠ e) ∙ sym (of_zeros (todays_max.of_zeros d zeroᶠ e))
+      go false e = ap shown (rust.off_zeros d zeroᶠ e)
 
-      go : (b : Bool) → both_zero d zeroᶠ ≡ b → x ⊕ max d zeroᶠ ≡ x ⊕ Today.max d zeroᶠ
-      go true e =
-          one_zero (max d zeroᶠ) (negative d) (negative zeroᶠ) (rust.of_zeros d zeroᶠ e)
-          ∙ sym (one_zero (Today.max d zeroᶠ) (negative d) (negative zeroᶠ) (todays_max.of_zeros d zeroᶠ e))
-      go false e = ap (λ (z : Float). x ⊕ z) (rust.off_zeros d zeroᶠ e)
+  step_added : (x : Float) → NotMinusZero x → x ⊕ max d zeroᶠ ≡ x ⊕ Today.max d zeroᶠ
+  step_added x n = step_hidden (λ z. x ⊕ z) (λ s t. sign_hidden x s t n)
+
+  product_of_step : (x g : Float) → NotMinusZero x → x ⊕ g ⊗ max d zeroᶠ ≡ x ⊕ g ⊗ Today.max d zeroᶠ
+  product_of_step x g n = step_hidden (λ z. x ⊕ g ⊗ z) (λ s t. sum_same x g _ _ n (zeros_alike _ _ (zeros_equal s) (zeros_equal t)))
 
 -- ---- the timing blocks
 -- a sample grid that starts on a whole second, which is not after t

@@ -1,7 +1,7 @@
 -- Stage by stage, and then whole: the controller over the published helpers gives what today's gives, at what it is handed. Assumes nothing.
 -- `Handed` lists that: plain facts of the readings, of the memories and of today's signals at this tick.
 use Rattle.std.proofs.Common.{◌≡◌, ℕ, ◌^◌, ◌<◌, ◌≤◌, Bool, true, false, cond, not, ◌&&◌, ◌||◌, T, eqb, ℤ, pos, refl, inl, inr, arith}
-use lib.Ieee.{Float, binary64, round, sub, neg, lt, eq, le, fits}
+use lib.Ieee.{Float, binary64, round, sub, neg, lt, eq, le, is_nan, fits}
 use lib.Ieee.Fits.{round-fits, neg-fits, mul-fits, add-fits}
 use Rattle.f64_helpers.specs.F64.{◌⊕◌, ◌⊖◌, ◌⊗◌, ◌⊘◌, ◌≤ᶠ◌, decimal, zero}
 use Rattle.f64_helpers.specs.Helpers as Today
@@ -12,7 +12,7 @@ use Rattle.f64_helpers.specs.Seconds.{IsTime}
 use Rattle.f64_helpers.proofs.WholeSeconds.{zero_whole, eq_whole}
 use Rattle.f64_helpers.proofs.Times.{decimal_whole}
 use Rattle.box_choices.specs.declared.Choices.{Choices}
-use Rattle.cdl_recurrences.specs.CdlRecurrences.{buildings_line, clamp, less_hysteretic, sample_due, sampler_output}
+use Rattle.cdl_recurrences.specs.CdlRecurrences.{buildings_line, less_hysteretic, sample_due, sampler_output}
 use Rattle.cooling_only_controller_timing.specs.Timing.{sampler_sample}
 use Rattle.cooling_only_controller_timing.specs.declared.SamplerState.{SamplerState}
 use Rattle.cooling_only_controller_conditioning.specs.Conditioning.{TEMPERATURE_HYSTERESIS, time_suppression, loop_pi, control_loops, setpoints, zone_states, active_airflow}
@@ -38,15 +38,17 @@ use Rattle.air_box.specs.declared.Tick.{Tick}
 use Rattle.air_box.specs.declared.AirBox.{AirBox}
 use Rattle.bounds.specs.PublishedHelpers.{published, RustMax, RustMin}
 use Rattle.bounds.specs.PublishedController.{time_suppression_over, loop_pi_over, control_loops_over, setpoints_over, zone_states_over, damper_over, system_requests_over, alarms_over, controller_output_over}
-use Rattle.bounds.proofs.PublishedBlocks.{Number, Started, hysteresis_same, clamp_same, line_same, true_delay_same, integral_same, sampler_same, unit_delay_same, chosen_number, zero_number}
-use Rattle.bounds.proofs.PublishedNumbers.{gain, FromZeroToOne, clamped, unit_finite, signal_finite, divided_finite, not_negative_zero, rounded_number, finite_number, sum_number, difference_number, scaled_number, sum_not_minus_zero}
+use Rattle.bounds.proofs.PublishedBlocks.{Started, hysteresis_same, clamp_same, line_same, true_delay_same, integral_same, sampler_same, unit_delay_same}
+use Rattle.f64_helpers.proofs.Intervals.{finite_number}
+use Rattle.f64_helpers.proofs.SignedZeros.{decimal_sign, sum_not_minus_zero}
+use mathlib.Core.Bool.{and-false}
+use Rattle.std.proofs.lemmas.Bool.{cond_both}
 
 -- ---- what is handed
 
--- an integrator, or a design flow: an f64 that is finite and not -0.0
+-- an integrator, or a flow: an f64 that is not -0.0
 pub record Held (x : Float) : Type 0 where
   pub held : T (fits binary64 x)
-  pub is_finite : Finite x
   pub not_minus_zero : NotMinusZero x
 
 -- the memories of each stage, at a tick at t
@@ -90,21 +92,35 @@ pub record MemoriesKept (s : ControllerState) (t : Float) : Type 0 where
 
 -- the readings, beside the box's cooling maximum
 pub record Readings (input : ControllerInput) (maximum : Float) : Type 0 where
-  pub zone_temperature : Finite input.zone_temperature
-  pub cooling_setpoint : Finite input.cooling_setpoint
-  pub heating_setpoint : Finite input.heating_setpoint
   pub co2_concentration : Finite input.co2_concentration
   pub co2_band : T (input.co2_setpoint ⊖ decimal 200 1 ≤ᶠ input.co2_setpoint)
   pub cooling_maximum : Held maximum
-  pub normalized_measurement : Finite (input.discharge_airflow ⊘ maximum)
 
--- today's signals at this tick
-abbrev pub co2_loop_at : ControllerInput → Float
+-- today's signals at this tick: of the loops and of the damper also the PI before its limits
+abbrev pub co2_loop_at : SetpointInput → Float
 co2_loop_at input = buildings_line (input.co2_setpoint ⊖ decimal 200 1) zero input.co2_setpoint (decimal 1 1) input.co2_concentration
 
+abbrev pub loop_unlimited : LoopPiState → Float → Float
+loop_unlimited s error = decimal 1 10 ⊗ error ⊕ s.integrator
+
+abbrev pub damper_unlimited : DamperState → Float → Float → Float → Float
+damper_unlimited s setpoint flow maximum = decimal 5 10 ⊗ (setpoint ⊘ maximum ⊖ flow ⊘ maximum) ⊕ s.integrator
+
+pub record LoopSignals (s : ControlLoopsState) (t cooling_setpoint zone_temperature heating_setpoint : Float) : Type 0 where
+  pub cooling_error : Finite (zone_temperature ⊖ cooling_setpoint)
+  pub cooling_unlimited : Finite (loop_unlimited s.cooling_pi (zone_temperature ⊖ cooling_setpoint))
+  pub heating_unlimited : Finite (loop_unlimited s.heating_pi (heating_setpoint ⊖ zone_temperature))
+  pub cooling : Finite (control_loops s t cooling_setpoint zone_temperature heating_setpoint).output.cooling
+  pub heating : Finite (control_loops s t cooling_setpoint zone_temperature heating_setpoint).output.heating
+  pub difference :
+      Finite ((control_loops s t cooling_setpoint zone_temperature heating_setpoint).output.heating ⊖ (control_loops s t cooling_setpoint zone_temperature heating_setpoint).output.cooling)
+
 pub record Signals (s : ControllerState) (t : Float) (input : ControllerInput) (choices : Choices) : Type 0 where
-  pub co2_loop : Finite (co2_loop_at input)
-  pub normalized_setpoint : Finite ((controller_output s t input choices).output.airflow_setpoint ⊘ choices.design_cooling_maximum_flow)
+  pub co2_loop : Finite (co2_loop_at (setpoint_input input))
+  pub loops : LoopSignals s.control_loops t input.cooling_setpoint input.zone_temperature input.heating_setpoint
+  pub damper : Finite (damper_unlimited s.dampers (controller_output s t input choices).output.airflow_setpoint input.discharge_airflow choices.design_cooling_maximum_flow)
+  pub airflow_setpoint : Finite (controller_output s t input choices).output.airflow_setpoint
+  pub damper_command : Finite (controller_output s t input choices).output.damper_command
 
 pub record Handed (box : AirBox) (k : Tick) : Type 0 where
   pub time : IsTime k.t
@@ -121,51 +137,27 @@ delay_above_zero n P N = rw (eq_whole (decimal n 1) zero n 0 (decimal_whole n N)
 
 window_above_zero : (x : Float) → both_zero x (decimal 1800 1) ≡ false
 unfolding round eq
-window_above_zero x = go (eq x zero)
-  where
-    go : (b : Bool) → (b && false) ≡ false
-    go true = refl
-    go false = refl
+window_above_zero x = and-false (eq x zero)
 
 zero_to_one : T (le zero (decimal 1 1))
 unfolding round le lt eq
 zero_to_one = tt
-
-loop_gain : T (gain (decimal 1 10))
-unfolding round
-loop_gain = tt
-
-damper_gain : T (gain (decimal 5 10))
-unfolding round
-damper_gain = tt
-
-decimal_not_minus_zero : (n d : ℕ) → NotMinusZero (decimal n d)
-decimal_not_minus_zero n d = not_negative_zero (decimal n d) (rounded_number false n d).1
 
 -- an intercept
 intercept : (f2 y : Float) → T (fits binary64 f2) → NotMinusZero f2 → T (fits binary64 y) → NotMinusZero (f2 ⊖ y)
 unfolding sub
 intercept f2 y f n g = sum_not_minus_zero f2 (neg y) f (neg-fits binary64 y g) (inl n)
 
-active_maximum : (mode : ℤ) (minimum : Float) (choices : Choices) → Held choices.design_cooling_maximum_flow
-    → T (fits binary64 (active_airflow mode minimum choices).cooling_maximum) × NotMinusZero (active_airflow mode minimum choices).cooling_maximum
-unfolding active_airflow
-active_maximum mode minimum choices maximum = go (le_z (pos 1) mode && le_z mode (pos 3))
-  where
-    most : Float
-    most = choices.design_cooling_maximum_flow
-
-    zero_held : T (fits binary64 zero)
-    zero_held = unfold fits in tt
-
-    go : (b : Bool) → T (fits binary64 (cond b most zero)) × NotMinusZero (cond b most zero)
-    go true = (maximum.held, maximum.not_minus_zero)
-    go false = (zero_held, tt)
+active_maximum : (mode : ℤ) (minimum : Float) (choices : Choices) → Held choices.design_cooling_maximum_flow → Held (active_airflow mode minimum choices).cooling_maximum
+unfolding active_airflow fits
+active_maximum mode minimum choices maximum =
+    cond_both (le_z (pos 1) mode && le_z mode (pos 3)) choices.design_cooling_maximum_flow zero Held (λ e. maximum) (λ e. record { held = tt; not_minus_zero = tt })
 
 -- what a sampler gives is the input or the number that it holds
-pub sampled_number : (s : SamplerState) (t input period : Float) → Finite s.held → Finite input → Number (sampler_sample s t input period).output
+sampled_number : (s : SamplerState) (t input period : Float) → Finite s.held → Finite input → T (not (is_nan (sampler_sample s t input period).output))
 unfolding sampler_sample sampler_output
-sampled_number s t input period h k = chosen_number (not s.initialized || (sample_due t s.t0 period s.last_index).due) input s.held (finite_number input k) (finite_number s.held h)
+sampled_number s t input period h k =
+    finite_number _ (cond_both (not s.initialized || (sample_due t s.t0 period s.last_index).due) input s.held Finite (λ e. k) (λ e. h))
 
 -- the ends of the bands
 low_signal : T (le (decimal 1 100) (decimal 5 100))
@@ -192,57 +184,6 @@ flow_band : T (le (decimal 5 1000) (decimal 1 100))
 unfolding round le lt eq
 flow_band = tt
 
--- ---- the PIs before their limits: numbers, so that what is limited lies from 0.0 to 1.0
-abbrev loop_unlimited : Float → Float → Float
-loop_unlimited integrator error = decimal 1 10 ⊗ error ⊕ integrator
-
-loop_number : (integrator error : Float) → Held integrator → Number error → Number (loop_unlimited integrator error)
-loop_number integrator error kept n = sum_number (decimal 1 10 ⊗ error) integrator (scaled_number (decimal 1 10) error loop_gain n) kept.is_finite
-
-loop_output : (s : LoopPiState) (t error : Float) (trigger : Bool) → Held s.integrator → Number error → FromZeroToOne (loop_pi s t error trigger).output
-unfolding loop_pi
-loop_output s t error trigger kept n = clamped (loop_unlimited s.integrator error) (loop_number s.integrator error kept n)
-
-pub loop_signals : (s : ControlLoopsState) (t cooling_setpoint zone_temperature heating_setpoint : Float) → LoopsKept s → Finite cooling_setpoint → Finite zone_temperature → Finite heating_setpoint
-    → let signals = (control_loops s t cooling_setpoint zone_temperature heating_setpoint).output in Finite signals.cooling × Finite signals.heating
-unfolding control_loops
-loop_signals s t cooling_setpoint zone_temperature heating_setpoint kept c z h =
-    let cooling_enable = less_hysteretic cooling_setpoint zone_temperature TEMPERATURE_HYSTERESIS s.cooling_enable in
-    let heating_enable = less_hysteretic zone_temperature heating_setpoint TEMPERATURE_HYSTERESIS s.heating_enable in
-    let cooling_error = zone_temperature ⊖ cooling_setpoint in
-    let heating_error = heating_setpoint ⊖ zone_temperature in (
-      signal_finite (loop_pi s.cooling_pi t cooling_error cooling_enable).output _
-          (loop_output s.cooling_pi t cooling_error cooling_enable kept.cooling_integrator (difference_number zone_temperature cooling_setpoint z c)),
-      signal_finite (loop_pi s.heating_pi t heating_error heating_enable).output _
-          (loop_output s.heating_pi t heating_error heating_enable kept.heating_integrator (difference_number heating_setpoint zone_temperature h z)),
-    )
-
--- the damper's PI, and the command, which an override sets to 0.0 or 1.0
-overridden : (shut wide : Bool) (x : Float) → FromZeroToOne x → Finite (cond shut zero (cond wide (decimal 1 1) x))
-overridden true wide x h = tt
-overridden false true x h = unfold round in tt
-overridden false false x h = unit_finite x h
-
-abbrev error_at : DamperState → Float → DamperInput → Choices → Float
-error_at s t input choices =
-    (damper s t input choices).output.airflow_setpoint ⊘ choices.design_cooling_maximum_flow ⊖ input.discharge_airflow ⊘ choices.design_cooling_maximum_flow
-
-module _ (s : DamperState) (t : Float) (input : DamperInput) (choices : Choices) (kept : Held s.integrator)
-    (setpoint : Finite ((damper s t input choices).output.airflow_setpoint ⊘ choices.design_cooling_maximum_flow))
-    (measurement : Finite (input.discharge_airflow ⊘ choices.design_cooling_maximum_flow)) where
-  damper_number : Number (decimal 5 10 ⊗ error_at s t input choices ⊕ s.integrator)
-  damper_number =
-      sum_number (decimal 5 10 ⊗ error_at s t input choices) s.integrator
-      (scaled_number (decimal 5 10) (error_at s t input choices) damper_gain
-      (difference_number ((damper s t input choices).output.airflow_setpoint ⊘ choices.design_cooling_maximum_flow) (input.discharge_airflow ⊘ choices.design_cooling_maximum_flow) setpoint measurement))
-      kept.is_finite
-
-  pub command_finite : Finite (damper s t input choices).output.damper_command
-  unfolding damper
-  command_finite =
-      let unlimited = decimal 5 10 ⊗ error_at s t input choices ⊕ s.integrator in
-      overridden (input.damper_override_index ==ᶻ 1) (input.damper_override_index ==ᶻ 2) (clamp unlimited zero (decimal 1 1)) (clamped unlimited damper_number)
-
 module _ (max min : Float → Float → Float) (rust_max : RustMax max) (rust_min : RustMin min) where
   -- ---- time suppression
   window_same : (x : Float) → min x (decimal 1800 1) ≡ Today.min x (decimal 1800 1)
@@ -261,27 +202,26 @@ module _ (max min : Float → Float → Float) (rust_max : RustMax max) (rust_mi
       refl
 
   -- ---- the loops
-  loop_same : (s : LoopPiState) (t error : Float) (trigger : Bool) → Held s.integrator → Number error
+  loop_same : (s : LoopPiState) (t error : Float) (trigger : Bool) → Held s.integrator → Finite (loop_unlimited s error)
       → loop_pi_over (published max min) s t error trigger ≡ loop_pi s t error trigger
   unfolding loop_pi_over loop_pi
   loop_same s t error trigger kept n =
-      let unlimited = loop_unlimited s.integrator error in
       rw (
-        clamp_same max min rust_max rust_min unlimited (loop_number s.integrator error kept n) (add-fits binary64 (decimal 1 10 ⊗ error) s.integrator)
+        clamp_same max min rust_max rust_min (loop_unlimited s error) (finite_number (loop_unlimited s error) n) (add-fits binary64 (decimal 1 10 ⊗ error) s.integrator)
             (sum_not_minus_zero (decimal 1 10 ⊗ error) s.integrator (mul-fits binary64 (decimal 1 10) error) kept.held (inr kept.not_minus_zero)),
         integral_same max min rust_max s.integrator s.previous_time t kept.not_minus_zero,
       )
       refl
 
-  loops_same : (s : ControlLoopsState) (t cooling_setpoint zone_temperature heating_setpoint : Float) → LoopsKept s → Finite cooling_setpoint → Finite zone_temperature → Finite heating_setpoint
+  loops_same : (s : ControlLoopsState) (t cooling_setpoint zone_temperature heating_setpoint : Float) → LoopsKept s → LoopSignals s t cooling_setpoint zone_temperature heating_setpoint
       → control_loops_over (published max min) s t cooling_setpoint zone_temperature heating_setpoint ≡ control_loops s t cooling_setpoint zone_temperature heating_setpoint
   unfolding control_loops_over control_loops
-  loops_same s t cooling_setpoint zone_temperature heating_setpoint kept c z h =
+  loops_same s t cooling_setpoint zone_temperature heating_setpoint kept signals =
       let cooling_enable = less_hysteretic cooling_setpoint zone_temperature TEMPERATURE_HYSTERESIS s.cooling_enable in
       let heating_enable = less_hysteretic zone_temperature heating_setpoint TEMPERATURE_HYSTERESIS s.heating_enable in
       rw (
-        loop_same s.cooling_pi t (zone_temperature ⊖ cooling_setpoint) cooling_enable kept.cooling_integrator (difference_number zone_temperature cooling_setpoint z c),
-        loop_same s.heating_pi t (heating_setpoint ⊖ zone_temperature) heating_enable kept.heating_integrator (difference_number heating_setpoint zone_temperature h z),
+        loop_same s.cooling_pi t (zone_temperature ⊖ cooling_setpoint) cooling_enable kept.cooling_integrator signals.cooling_unlimited,
+        loop_same s.heating_pi t (heating_setpoint ⊖ zone_temperature) heating_enable kept.heating_integrator signals.heating_unlimited,
         true_delay_same max min rust_max s.cooling_delay t (decimal 30 1) false (delay_above_zero 30 (omega arith) (omega arith)) kept.cooling_timer,
         true_delay_same max min rust_max s.heating_delay t (decimal 30 1) false (delay_above_zero 30 (omega arith) (omega arith)) kept.heating_timer,
       )
@@ -290,68 +230,69 @@ module _ (max min : Float → Float → Float) (rust_max : RustMax max) (rust_mi
   -- ---- the ventilation setpoints
   setpoints_same : (s : SetpointsState) (input : SetpointInput) (choices : Choices)
       → Finite input.co2_concentration → T (input.co2_setpoint ⊖ decimal 200 1 ≤ᶠ input.co2_setpoint)
-      → Finite (buildings_line (input.co2_setpoint ⊖ decimal 200 1) zero input.co2_setpoint (decimal 1 1) input.co2_concentration) → Held choices.design_cooling_maximum_flow
+      → Finite (co2_loop_at input) → Held choices.design_cooling_maximum_flow
       → setpoints_over (published max min) s input choices ≡ setpoints s input choices
   unfolding setpoints_over setpoints
   setpoints_same s input choices co2 band loop maximum =
       let low = input.co2_setpoint ⊖ decimal 200 1 in
-      let co2_loop = buildings_line low zero input.co2_setpoint (decimal 1 1) input.co2_concentration in
-      let corrected = cond (input.operating_mode ==ᶻ 1) co2_loop zero in
-      let corrected_number : Number corrected = chosen_number (input.operating_mode ==ᶻ 1) co2_loop zero (finite_number co2_loop loop) zero_number in
+      let corrected = cond (input.operating_mode ==ᶻ 1) (co2_loop_at input) zero in
+      let corrected_number = finite_number corrected (cond_both (input.operating_mode ==ᶻ 1) (co2_loop_at input) zero Finite (λ e. loop) (λ e. tt)) in
       let one = decimal 1 1 in
       let most = choices.design_cooling_maximum_flow in
       let least = choices.design_minimum_flow in
       let people = decimal 5 1000 in
       rw (
         line_same max min rust_max rust_min low zero input.co2_setpoint one input.co2_concentration (finite_number input.co2_concentration co2) band
-            (intercept one ((one ⊖ zero) ⊘ (input.co2_setpoint ⊖ low) ⊗ input.co2_setpoint) (round-fits binary64 false 1 1) (decimal_not_minus_zero 1 1)
+            (intercept one ((one ⊖ zero) ⊘ (input.co2_setpoint ⊖ low) ⊗ input.co2_setpoint) (round-fits binary64 false 1 1) (decimal_sign 1 1)
             (mul-fits binary64 ((one ⊖ zero) ⊘ (input.co2_setpoint ⊖ low)) input.co2_setpoint)),
         line_same max min rust_max rust_min zero least one most corrected corrected_number zero_to_one
             (intercept most ((most ⊖ least) ⊘ (one ⊖ zero) ⊗ one) maximum.held maximum.not_minus_zero (mul-fits binary64 ((most ⊖ least) ⊘ (one ⊖ zero)) one)),
         line_same max min rust_max rust_min zero zero one people corrected corrected_number zero_to_one
-            (intercept people ((people ⊖ zero) ⊘ (one ⊖ zero) ⊗ one) (round-fits binary64 false 5 1000) (decimal_not_minus_zero 5 1000) (mul-fits binary64 ((people ⊖ zero) ⊘ (one ⊖ zero)) one)),
+            (intercept people ((people ⊖ zero) ⊘ (one ⊖ zero) ⊗ one) (round-fits binary64 false 5 1000) (decimal_sign 5 1000) (mul-fits binary64 ((people ⊖ zero) ⊘ (one ⊖ zero)) one)),
       )
       refl
 
   -- ---- the zone state
-  zone_same : (s : ZoneStatesState) (heating cooling : Float) → Finite heating → Finite cooling → zone_states_over (published max min) s heating cooling ≡ zone_states s heating cooling
+  zone_same : (s : ZoneStatesState) (heating cooling : Float) → Finite heating → Finite cooling → Finite (heating ⊖ cooling) → zone_states_over (published max min) s heating cooling ≡ zone_states s heating cooling
   unfolding zone_states_over zone_states
-  zone_same s heating cooling h c =
+  zone_same s heating cooling h c d =
       rw (
         hysteresis_same heating (decimal 1 100) (decimal 5 100) s.heating_signal (finite_number heating h) low_signal,
         hysteresis_same cooling (decimal 1 100) (decimal 5 100) s.cooling_signal (finite_number cooling c) low_signal,
-        hysteresis_same (heating ⊖ cooling) (neg (decimal 1 100)) (decimal 1 100) s.heating_tiebreak (difference_number heating cooling h c) tiebreak,
+        hysteresis_same (heating ⊖ cooling) (neg (decimal 1 100)) (decimal 1 100) s.heating_tiebreak (finite_number (heating ⊖ cooling) d) tiebreak,
       )
       refl
 
   -- ---- the damper
   damper_same : (s : DamperState) (t : Float) (input : DamperInput) (choices : Choices) → Held s.integrator → Finite input.cooling_loop
-      → T (fits binary64 input.active_cooling_maximum_flow) → NotMinusZero input.active_cooling_maximum_flow
-      → Finite ((damper s t input choices).output.airflow_setpoint ⊘ choices.design_cooling_maximum_flow) → Finite (input.discharge_airflow ⊘ choices.design_cooling_maximum_flow)
+      → Held input.active_cooling_maximum_flow
+      → Finite (damper_unlimited s (damper s t input choices).output.airflow_setpoint input.discharge_airflow choices.design_cooling_maximum_flow)
       → damper_over (published max min) s t input choices ≡ damper s t input choices
   unfolding damper_over damper
-  damper_same s t input choices kept loop f n setpoint measurement =
+  damper_same s t input choices kept loop maximum n =
       let most = input.active_cooling_maximum_flow in
       let least = input.active_minimum_flow in
       let one = decimal 1 1 in
-      let proportional = decimal 5 10 ⊗ error_at s t input choices in
+      let M = choices.design_cooling_maximum_flow in
+      let setpoint = (damper s t input choices).output.airflow_setpoint in
+      let error = setpoint ⊘ M ⊖ input.discharge_airflow ⊘ M in
       rw (
         line_same max min rust_max rust_min zero least one most input.cooling_loop (finite_number input.cooling_loop loop) zero_to_one
-            (intercept most ((most ⊖ least) ⊘ (one ⊖ zero) ⊗ one) f n (mul-fits binary64 ((most ⊖ least) ⊘ (one ⊖ zero)) one)),
-        clamp_same max min rust_max rust_min (proportional ⊕ s.integrator) (damper_number s t input choices kept setpoint measurement) (add-fits binary64 proportional s.integrator)
-            (sum_not_minus_zero proportional s.integrator (mul-fits binary64 (decimal 5 10) (error_at s t input choices)) kept.held (inr kept.not_minus_zero)),
+            (intercept most ((most ⊖ least) ⊘ (one ⊖ zero) ⊗ one) maximum.held maximum.not_minus_zero (mul-fits binary64 ((most ⊖ least) ⊘ (one ⊖ zero)) one)),
+        clamp_same max min rust_max rust_min (damper_unlimited s setpoint input.discharge_airflow M) (finite_number _ n) (add-fits binary64 (decimal 5 10 ⊗ error) s.integrator)
+            (sum_not_minus_zero (decimal 5 10 ⊗ error) s.integrator (mul-fits binary64 (decimal 5 10) error) kept.held (inr kept.not_minus_zero)),
         integral_same max min rust_max s.integrator s.previous_time t kept.not_minus_zero,
       )
       refl
 
   -- ---- the system requests
   requests_same : (s : SystemRequestsState) (t : Float) (input : SystemRequestInput) (choices : Choices) → IsTime t → RequestsKept s t
-      → Finite input.zone_temperature → Finite input.cooling_setpoint → Finite input.cooling_loop → Finite input.airflow_setpoint → Finite input.damper_position
+      → Finite (input.zone_temperature ⊖ input.cooling_setpoint) → Finite input.cooling_loop → Finite input.airflow_setpoint → Finite input.damper_position
       → system_requests_over (published max min) s t input choices ≡ system_requests s t input choices
   unfolding system_requests_over system_requests
-  requests_same s t input choices time kept zone setpoint loop airflow position =
+  requests_same s t input choices time kept error loop airflow position =
       let difference = input.zone_temperature ⊖ input.cooling_setpoint in
-      let difference_is : Number difference = difference_number input.zone_temperature input.cooling_setpoint zone setpoint in
+      let difference_is = finite_number difference error in
       let cooling = sampler_sample s.cooling_sampler t input.cooling_loop (decimal 120 1) in
       let airflow_setpoint = sampler_sample s.setpoint_sampler t input.airflow_setpoint (decimal 120 1) in
       let command = sampler_sample s.damper_sampler t input.damper_position (decimal 120 1) in
@@ -403,20 +344,16 @@ module _ (max min : Float → Float → Float) (rust_max : RustMax max) (rust_mi
       let air = damper_input input loops.output active zone.output in
       let step = damper s.dampers t air choices in
       let most = active_maximum input.operating_mode ventilation.output.occupied_minimum_flow choices readings.cooling_maximum in
-      let signal = loop_signals s.control_loops t input.cooling_setpoint input.zone_temperature input.heating_setpoint kept.loops
-      readings.cooling_setpoint readings.zone_temperature readings.heating_setpoint in
-      let airflow_setpoint = divided_finite step.output.airflow_setpoint choices.design_cooling_maximum_flow signals.normalized_setpoint in
-      let command = command_finite s.dampers t air choices kept.damper_integrator signals.normalized_setpoint readings.normalized_measurement in
+      let signal = signals.loops in
       rw (
         suppression_same s.time_suppression t input.cooling_setpoint input.zone_temperature time kept.suppression,
-        loops_same s.control_loops t input.cooling_setpoint input.zone_temperature input.heating_setpoint kept.loops
-            readings.cooling_setpoint readings.zone_temperature readings.heating_setpoint,
+        loops_same s.control_loops t input.cooling_setpoint input.zone_temperature input.heating_setpoint kept.loops signal,
         setpoints_same s.setpoints (setpoint_input input) choices readings.co2_concentration readings.co2_band signals.co2_loop readings.cooling_maximum,
-        zone_same s.zone_states loops.output.heating loops.output.cooling signal.1 signal.0,
-        damper_same s.dampers t air choices kept.damper_integrator signal.0 most.0 most.1 signals.normalized_setpoint readings.normalized_measurement,
+        zone_same s.zone_states loops.output.heating loops.output.cooling signal.heating signal.cooling signal.difference,
+        damper_same s.dampers t air choices kept.damper_integrator signal.cooling most signals.damper,
         requests_same s.system_requests t (request_input input suppression.output loops.output step.output) choices time kept.requests
-            readings.zone_temperature readings.cooling_setpoint signal.0 airflow_setpoint command,
-        alarms_same s.alarms t (alarm_input input step.output) choices kept.alarms airflow_setpoint,
+            signal.cooling_error signal.cooling signals.airflow_setpoint signals.damper_command,
+        alarms_same s.alarms t (alarm_input input step.output) choices kept.alarms signals.airflow_setpoint,
       )
       (refl {a = controller_output s t input choices})
 

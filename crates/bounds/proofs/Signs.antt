@@ -1,12 +1,10 @@
 -- No integrator becomes -0.0: a sum is -0.0 only if both parts are, and a reset stores minus a number above 0, or 0.01 less one. Assumes nothing.
-use Rattle.std.proofs.Common.{refl, Bool, true, false, not, ◌&&◌, ◌||◌, T, subst, pos, negsuc, inl, if◌then◌else◌}
+use Rattle.std.proofs.Common.{refl, Bool, true, false, not, ◌&&◌, ◌||◌, T, subst, pos, negsuc, inl}
 use lib.Ieee.{Float, fin, binary64, round, neg, add, sub, mul, lt, eq, le, fits}
 use lib.Ieee.Fits.{add-fits, sub-fits, mul-fits, neg-fits}
-use Rattle.std.proofs.lemmas.Float.{le_trans, lt_of_lt_of_le, le_of_eq, eq_flip}
+use Rattle.std.proofs.lemmas.Float.{le_trans, lt_of_lt_of_le}
 use Rattle.f64_helpers.specs.F64.{◌⊕◌, ◌⊖◌, ◌⊗◌, ◌<ᶠ◌, ◌≤ᶠ◌, decimal, zero}
 use Rattle.f64_helpers.specs.Ranges.{Between, Finite, NotMinusZero}
-use Rattle.f64_helpers.proofs.Signs.{neg_neg}
-use Rattle.f64_helpers.proofs.Sums.{le_turned}
 use Rattle.f64_helpers.proofs.Intervals.{finite_between, times_larger, sub_in}
 use Rattle.f64_helpers.proofs.LargeDifferences.{difference_from_128}
 use Rattle.cdl_recurrences.specs.CdlRecurrences.{less_hysteretic}
@@ -26,28 +24,23 @@ use Rattle.bounds.specs.PublishedAgrees.{LoopReadingsHeld}
 use Rattle.bounds.proofs.Accepted.{Readings}
 use Rattle.bounds.specs.Limits.{COLDEST, HOTTEST}
 use Rattle.bounds.specs.Kept.{KeptLoopSign, KeptSigns}
-use Rattle.bounds.proofs.PublishedNumbers.{not_minus_zero, sum_not_minus_zero}
+use Rattle.f64_helpers.proofs.SignedZeros.{opposite_sign, sum_not_minus_zero}
+use Rattle.f64_helpers.proofs.Tests.{yes}
+use Rattle.std.proofs.lemmas.Bool.{cond_both}
 
--- minus a number above 0
-opposite_sign : (p : Float) → T (zero <ᶠ p) → NotMinusZero (neg p)
-opposite_sign p h =
-    not_minus_zero (neg p) (λ e. none (lt_of_lt_of_le zero p (neg zero) h (subst (λ (z : Float). T (z ≤ᶠ neg zero)) (neg_neg p) (le_turned zero (neg p) (le_of_eq zero (neg p) (eq_flip (neg p) zero e))))))
-  where
-    none : T (zero <ᶠ neg zero) → ⊥
-    none k = unfold neg lt in k
+-- a number that f64 has
+abbrev Fits : Float → Type 0
+Fits x = T (fits binary64 x)
 
 -- of two temperatures, the one above the other
 module _ {above below : Float} (x : Between COLDEST above HOTTEST) (y : Between COLDEST below HOTTEST) (f : T (fits binary64 above)) (g : T (fits binary64 below)) (h : T (below <ᶠ above)) where
-  temperature_finite : {z : Float} → Between COLDEST z HOTTEST → Finite z
-  unfolding round
-  temperature_finite b = finite_between tt tt b
-
   from_128 : T (fin false 1 (pos 7) ≤ᶠ below)
   unfolding round le lt eq
   from_128 = le_trans (fin false 1 (pos 7)) COLDEST below tt y.from_low
 
   error_above : T (fin false 1 (negsuc 1063) ≤ᶠ above ⊖ below)
-  error_above = difference_from_128 above below f g (temperature_finite x) (temperature_finite y) from_128 h
+  unfolding round
+  error_above = difference_from_128 above below f g (finite_between tt tt x) (finite_between tt tt y) from_128 h
 
   error_finite : Finite (above ⊖ below)
   unfolding round neg add sub le lt eq
@@ -75,26 +68,21 @@ rises below above previous h = go previous (below <ᶠ above) (below <ᶠ above 
 
 -- ---- the loops
 
-held_if : (p : Bool) (x y : Float) → T (fits binary64 x) → T (fits binary64 y) → T (fits binary64 (if p then x else y))
-held_if true x y f g = f
-held_if false x y f g = g
-
-sign_if : (p : Bool) (x y : Float) → (T p → NotMinusZero x) → NotMinusZero y → NotMinusZero (if p then x else y)
-sign_if true x y f g = f tt
-sign_if false x y f g = g
-
 module _ {above below : Float} (x : Between COLDEST above HOTTEST) (y : Between COLDEST below HOTTEST) (f : T (fits binary64 above)) (g : T (fits binary64 below)) (s : LoopPiState) (enable : Bool) (k : KeptLoopSign enable s) (t : Float) where
   abbrev trigger : Bool
   trigger = less_hysteretic below above TEMPERATURE_HYSTERESIS enable
 
-  rises_here : T (trigger && not s.previous_trigger) → T (below <ᶠ above)
+  abbrev reset : Bool
+  reset = trigger && not s.previous_trigger
+
+  rises_here : T reset → T (below <ᶠ above)
   rises_here h = rises below above enable (subst (λ (b : Bool). T (trigger && not b)) k.trigger h)
 
   pub loop_signs : KeptLoopSign trigger (loop_pi s t (above ⊖ below) trigger).state
   unfolding loop_pi
   loop_signs = record {
-    held = held_if (trigger && not s.previous_trigger) _ _ (neg-fits binary64 _ (mul-fits binary64 CONTROL_GAIN (above ⊖ below))) (add-fits binary64 s.integrator _);
-    sign = sign_if (trigger && not s.previous_trigger) _ _ (λ h. reset_sign x y f g (rises_here h)) (sum_not_minus_zero s.integrator _ k.held (mul-fits binary64 _ _) (inl k.sign));
+    held = cond_both reset _ _ Fits (λ e. neg-fits binary64 _ (mul-fits binary64 CONTROL_GAIN (above ⊖ below))) (λ e. add-fits binary64 s.integrator _);
+    sign = cond_both reset _ _ NotMinusZero (λ e. reset_sign x y f g (rises_here (yes e))) (λ e. sum_not_minus_zero s.integrator _ k.held (mul-fits binary64 _ _) (inl k.sign));
     trigger = refl;
   }
 
@@ -118,8 +106,8 @@ pub damper_signs : (s : DamperState) (t : Float) (input : DamperInput) (choices 
     → T (fits binary64 (damper s t input choices).state.integrator) × NotMinusZero (damper s t input choices).state.integrator
 unfolding damper
 damper_signs s t input choices f n = (
-  held_if (input.supply_fan_status && not s.previous_fan) _ _ (sub-fits binary64 (decimal 1 100) _) (add-fits binary64 s.integrator _),
-  sign_if (input.supply_fan_status && not s.previous_fan) _ _ (λ h. lowered_sign _ (mul-fits binary64 _ _)) (sum_not_minus_zero s.integrator _ f (mul-fits binary64 _ _) (inl n)),
+  cond_both (input.supply_fan_status && not s.previous_fan) _ _ Fits (λ e. sub-fits binary64 (decimal 1 100) _) (λ e. add-fits binary64 s.integrator _),
+  cond_both (input.supply_fan_status && not s.previous_fan) _ _ NotMinusZero (λ e. lowered_sign _ (mul-fits binary64 _ _)) (λ e. sum_not_minus_zero s.integrator _ f (mul-fits binary64 _ _) (inl n)),
 )
 
 -- over an accepted tick

@@ -4,7 +4,7 @@ use lib.Ieee.{Float, round, add, lt, eq, le, is_nan}
 use Rattle.std.proofs.lemmas.Float.{le_refl, le_right}
 use Rattle.f64_helpers.specs.F64.{◌⊕◌, ◌⊖◌, ◌⊘◌, ◌>ᶠ◌, ◌≤ᶠ◌, ◌≥ᶠ◌, decimal, zero}
 use Rattle.f64_helpers.specs.Helpers.{abs, max, negative, as_f64}
-use Rattle.f64_helpers.proofs.SignBits.{sum_clear}
+use Rattle.f64_helpers.proofs.SignedZeros.{sum_clear}
 use Rattle.f64_helpers.specs.Seconds.{Whole, IsTime, seconds}
 use Rattle.f64_helpers.specs.Ranges.{Between, Finite}
 use Rattle.f64_helpers.proofs.Intervals.{finite_between, not_at_least, add_in, wider, inside, ends}

@@ -15,7 +15,7 @@ use Rattle.f64_helpers.proofs.Order.{plus}
 use Rattle.f64_helpers.proofs.Sums.{rounded, rounded_in_order, at_least_zero}
 use Rattle.f64_helpers.proofs.Values.{in_places}
 use Rattle.f64_helpers.proofs.Intervals.{finite_between}
-use Rattle.f64_helpers.proofs.WholeSeconds.{sizes}
+use Rattle.f64_helpers.proofs.WholeSeconds.{none, sizes}
 use Rattle.f64_helpers.proofs.Monotone.{mul_is, div_is}
 
 -- ---- units
@@ -26,7 +26,7 @@ one = 2 ^ low binary64
 pub limit : ℕ
 limit = 2 ^ (low binary64 + suc (emax binary64))
 
-one_pos : 0 < one
+pub one_pos : 0 < one
 unfolding one
 one_pos = pow_pos (low binary64)
 
@@ -49,11 +49,8 @@ units_finite nan n u = u
 units_finite (inf s) n u = u
 units_finite (fin s m e) n u = tt
 
--- nothing times c, and what is nothing once it is multiplied by a c above 0
-none : (n c : ℕ) → n ≡ 0 → n * c ≡ 0
-none n c h = ap (λ (x : ℕ). x * c) h ∙ zero-mul c
-
-no_units : (n c : ℕ) → 0 < c → n * c ≡ 0 → n ≡ 0
+-- what is nothing once it is multiplied by a c above 0
+pub no_units : (n c : ℕ) → 0 < c → n * c ≡ 0 → n ≡ 0
 no_units zero c C h = refl
 no_units (suc n) c C h = absurd (positive (suc n * c) (mul-pos (omega arith) C) h)
   where
@@ -122,11 +119,11 @@ once_in_order y z n k o p h =
     signs true true y z = omega (arith, none k one (z tt))
 
 -- ---- two floats in units, at the denominator of both
-left : (a c d n : ℕ) → a * one ≡ n * c → a * d * one ≡ n * (c * d)
-left a c d n h = mul_right_comm a d one ∙ ap (λ (x : ℕ). x * d) h ∙ mul_assoc n c d
+pub at_left : (a c d n : ℕ) → a * one ≡ n * c → a * d * one ≡ n * (c * d)
+at_left a c d n h = mul_right_comm a d one ∙ ap (λ (x : ℕ). x * d) h ∙ mul_assoc n c d
 
-right : (a c d n : ℕ) → a * one ≡ n * d → a * c * one ≡ n * (c * d)
-right a c d n h = left a d c n h ∙ ap (λ (x : ℕ). n * x) (mul_comm d c)
+pub at_right : (a c d n : ℕ) → a * one ≡ n * d → a * c * one ≡ n * (c * d)
+at_right a c d n h = at_left a d c n h ∙ ap (λ (x : ℕ). n * x) (mul_comm d c)
 
 at_one_scale : (P : Float → Float → Type 0) (n k : ℕ)
     → ((s t : Bool) (m a : ℕ) (e d : ℤ) → 0 < down e * down d → m * up e * down d * one ≡ n * (down e * down d) → a * up d * down e * one ≡ k * (down e * down d) → (T s → n ≡ 0) → (T t → k ≡ 0) → P (fin s m e) (fin t a d))
@@ -136,7 +133,7 @@ at_one_scale P n k f (inf s) y u v = absurd u
 at_one_scale P n k f (fin s m e) nan u v = absurd v
 at_one_scale P n k f (fin s m e) (inf t) u v = absurd v
 at_one_scale P n k f (fin s m e) (fin t a d) u v =
-    f s t m a e d (mul-pos (down_pos e) (down_pos d)) (left (m * up e) (down e) (down d) n u.0) (right (a * up d) (down e) (down d) k v.0) u.1 v.1
+    f s t m a e d (mul-pos (down_pos e) (down_pos d)) (at_left (m * up e) (down e) (down d) n u.0) (at_right (a * up d) (down e) (down d) k v.0) u.1 v.1
 
 -- ---- sums and differences
 -- of a float in units: what is added, and what is taken away, which is nothing
@@ -209,13 +206,13 @@ times_one : (x : Float) (n : ℕ) → InUnits x n → Once (mul binary64 x (fin 
 times_one nan n u = absurd u
 times_one (inf s) n u = absurd u
 times_one (fin s m e) n u =
-    subst (λ (z : Float). Once z n) (sym (mul_is s m e 1 (pos 0))) (round_units s (m * up e * 1) (down e * 1) n (mul-pos (down_pos e) (omega arith)) (left (m * up e) (down e) 1 n u.0) u.1)
+    subst (λ (z : Float). Once z n) (sym (mul_is s m e 1 (pos 0))) (round_units s (m * up e * 1) (down e * 1) n (mul-pos (down_pos e) (omega arith)) (at_left (m * up e) (down e) 1 n u.0) u.1)
 
 over_one : (x : Float) (n : ℕ) → InUnits x n → Once (div binary64 x (fin false 1 (pos 0))) n
 over_one nan n u = absurd u
 over_one (inf s) n u = absurd u
 over_one (fin s m e) n u =
-    subst (λ (z : Float). Once z n) (sym (div_is s m e 0 (pos 0))) (round_units s (m * up e * 1) (down e * 1) n (mul-pos (down_pos e) (omega arith)) (left (m * up e) (down e) 1 n u.0) u.1)
+    subst (λ (z : Float). Once z n) (sym (div_is s m e 0 (pos 0))) (round_units s (m * up e * 1) (down e * 1) n (mul-pos (down_pos e) (omega arith)) (at_left (m * up e) (down e) 1 n u.0) u.1)
 
 pub times_one_exact : (x : Float) (n : ℕ) → InUnits x n → Held n → InUnits (mul binary64 x (fin false 1 (pos 0))) n
 times_one_exact x n u h = once_held (mul binary64 x (fin false 1 (pos 0))) n (times_one x n u) h

@@ -1,6 +1,6 @@
 -- Ranges through the operations: what is rounded once from numbers in ranges lies in the range of the ends, rounded once. So the ranges of a longer formula are found by
 -- computing with its ends. A test compares the computed ends with those that are wanted; of literals it computes to an answer. Assumes nothing.
-use Rattle.std.proofs.Common.{arith, ◌||◌, ◌≡◌, refl, ℕ, ◌*◌, Bool, true, false, cond, not, if◌then◌else◌, ◌&&◌, T, ◌⊎◌, ℤ, pos, sym, ap, ◌∙◌, subst, inl, inr}
+use Rattle.std.proofs.Common.{arith, ◌||◌, ◌≡◌, refl, ℕ, ◌*◌, Bool, true, false, cond, not, if◌then◌else◌, ◌&&◌, T, ◌⊎◌, ℤ, pos, sym, ap, ◌∙◌, subst, inl, inr, T_not}
 use lib.Ieee.{Float, nan, inf, fin, binary64, unlike, up, down, round, neg, mul, lt, eq, le, is_nan}
 use lib.Ieee.Fits.{and_l, and_r}
 use Rattle.std.proofs.lemmas.Float.{le_refl, le_trans, le_of_lt, lt_of_lt_of_le, le_of_not-lt}
@@ -13,7 +13,13 @@ use Rattle.f64_helpers.proofs.Signs.{neg_neg}
 use Rattle.f64_helpers.proofs.Negation.{neg_round}
 use Rattle.f64_helpers.proofs.Monotone.{add_mono, sub_mono, mul_mono, mul_turned, div_mono, div_shrinks, neg_finite}
 
--- ---- what lies between two finite numbers is finite
+-- ---- what is finite is no NaN, and what lies between two finite numbers is finite
+pub finite_number : (x : Float) → Finite x → T (not (is_nan x))
+unfolding is_nan
+finite_number nan f = f
+finite_number (inf s) f = absurd f
+finite_number (fin s m e) f = tt
+
 no_number : (x : Float) → T (is_nan x) → (low : Float) → T (low ≤ᶠ x) → ⊥
 no_number x n low h = number_at_most low x (inr n) h
 
@@ -38,6 +44,10 @@ ends a b = is_finite a && is_finite b
 
 abbrev pub inside : Float → Float → Float → Float → Bool
 inside low a b high = (low ≤ᶠ a) && (b ≤ᶠ high)
+
+-- both tests of a range
+pub between : {low x high : Float} → T ((low ≤ᶠ x) && (x ≤ᶠ high)) → Between low x high
+between {low} {x} {high} t = record { from_low = and_l (low ≤ᶠ x) (x ≤ᶠ high) t; to_high = and_r (low ≤ᶠ x) (x ≤ᶠ high) t }
 
 ends_are : (a b : Float) → T (ends a b) → Finite a × Finite b
 ends_are a b h = (and_l (is_finite a) (is_finite b) h, and_r (is_finite a) (is_finite b) h)
@@ -171,22 +181,19 @@ at_most_or_least x k f g = elim (in_order x k) [
     | inl h ↦ inl h
     | inr r ↦ elim r [
         | inl h ↦ inr (le_of_lt k x h)
-        | inr n ↦ elim n [ inl a ↦ absurd (finite_number x f a) | inr b ↦ absurd (finite_number k g b) ]
+        | inr n ↦ elim n [ inl a ↦ absurd (T_not (is_nan x) (finite_number x f) a) | inr b ↦ absurd (T_not (is_nan k) (finite_number k g) b) ]
     ]
   ]
-  where
-    finite_number : (x : Float) → Finite x → T (is_nan x) → ⊥
-    finite_number nan f n = f
-    finite_number (inf s) f n = f
-    finite_number (fin s m e) f n = absurd (unfold is_nan in n)
+
+-- either end of a range cut at k
+pub cut : {low x high : Float} (k : Float) → Finite low → Finite high → Finite k → Between low x high → Between low x k ⊎ Between k x high
+cut {low} {x} {high} k f g K b =
+    elim (at_most_or_least x k (finite_between f g b) K) [
+      | inl h ↦ inl (record { from_low = b.from_low; to_high = h })
+      | inr h ↦ inr (record { from_low = h; to_high = b.to_high })
+    ]
 
 -- ---- the helpers
-pub finite_number : (x : Float) → Finite x → T (not (is_nan x))
-unfolding is_nan
-finite_number nan f = f
-finite_number (inf s) f = absurd f
-finite_number (fin s m e) f = tt
-
 size_not_negative : (m : ℕ) (e : ℤ) → T (zero ≤ᶠ fin false m e)
 unfolding le
 size_not_negative m e = (fractions false false (0 * 1) (m * up e) 1 (down e)).1 (omega arith)

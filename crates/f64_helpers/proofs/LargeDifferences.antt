@@ -1,11 +1,11 @@
 -- The difference of two f64 from 128 on that are not equal: both are whole numbers of 2 ^ 10 units (of far more, but that is enough), so the rounded difference is not below that. Assumes nothing.
-use Rattle.std.proofs.Common.{◌≡◌, ap, ◌∙◌, negsuc, suc-mul, zero-mul, ℕ, zero, suc, ◌+◌, ◌-◌, ◌*◌, ◌^◌, ◌<◌, ◌≤◌, Bool, true, false, not, T, leb, ◌⊎◌, ℤ, pos, refl, sym, subst, inl, inr, le_trans, le_of_lt, lt_of_le_of_lt, lt_of_lt_of_le, mul-le-mul, mul-le-mul_right, one-mul, mul-one, eq-zero-or-pos, not-le_of_lt, arith, pow_mono, leb→le, lit≤, lit<}
-use lib.Ieee.{Float, nan, inf, fin, binary64, up, down, round, sub, lt, eq, le, fits}
+use Rattle.std.proofs.Common.{◌≡◌, ap, ◌∙◌, negsuc, suc-mul, zero-mul, ℕ, zero, suc, ◌-◌, ◌*◌, ◌^◌, ◌<◌, ◌≤◌, Bool, true, false, not, T, leb, pos, refl, sym, subst, inl, inr, le_trans, le_of_lt, lt_of_le_of_lt, mul-le-mul, one-mul, mul-one, eq-zero-or-pos, not-le_of_lt, arith, pow_mono, leb→le, lit≤, lit<}
+use lib.Ieee.{Float, fin, binary64, round, sub, lt, eq, le, fits}
 use lib.Dec.{nleb→lt}
 use Rattle.f64_helpers.specs.F64.{zero as zeroᶠ}
 use Rattle.f64_helpers.specs.Ranges.{Finite}
 use Rattle.f64_helpers.proofs.Order.{not_both}
-use Rattle.f64_helpers.proofs.ExactDifferences.{one, Held, InUnits, Units, Once, units_of, le_units, sub_once, once_in_order, in_steps, steps_less, rounded_once}
+use Rattle.f64_helpers.proofs.ExactDifferences.{one, Held, InUnits, Units, units_of, le_units, sub_once, once_in_order, in_steps, steps_less, rounded_once}
 use Rattle.std.proofs.lemmas.Float as Floats
 
 -- 53 digits and fewer than ten zeros

@@ -1,8 +1,9 @@
 -- Each operation keeps the order of what it is given: rounding keeps the order of fractions, and the exact results are in order. Assumes nothing.
-use Rattle.std.proofs.Common.{◌≡◌, ℕ, zero, suc, ◌+◌, ◌*◌, ◌<◌, ◌≤◌, Bool, true, false, not, T, ℤ, pos, sym, refl, ap, ◌∙◌, subst, mul-le-mul_right, zero-lt-suc, mul_assoc, mul_comm, mul_left_comm, add-mul, mul-pos, mul-zero, zero-mul, mul-le-mul_left, ltb→lt, arith}
+use Rattle.std.proofs.Common.{◌≡◌, ℕ, zero, suc, ◌+◌, ◌*◌, ◌<◌, ◌≤◌, Bool, true, false, not, T, ℤ, pos, sym, refl, ap, ◌∙◌, subst, mul-le-mul_right, zero-lt-suc, mul_assoc, mul_comm, mul_left_comm, add-mul, mul-pos, mul-zero, zero-mul, mul-le-mul_left, ltb→lt, arith, mul-one, one-mul}
 use lib.Ieee.{Float, nan, inf, fin, binary64, unlike, up, down, round, neg, sum, add, sub, mul, div, lt, le}
 use lib.Ieee.Fits.{down_pos, up_pos}
 use lib.Dec.{eqb-suc-zero}
+use lib.Ieee.Scale.{round_same}
 use Rattle.f64_helpers.specs.F64.{zero as zeroᶠ}
 use Rattle.f64_helpers.specs.Ranges.{Finite}
 use Rattle.f64_helpers.proofs.Order.{plus, plus_mul, fractions}
@@ -178,6 +179,17 @@ div_mono (fin s m e) (inf s') v f f' g p h = absurd f'
 div_mono (fin s m e) (fin s' m' e') v f f' g p h =
     let a = above_zero v g p in
     subst (λ (v : Float). T (le (div binary64 (fin s m e) v) (div binary64 (fin s' m' e') v))) (sym a.is) (finite_div s m e s' m' e' a.size a.power h)
+
+-- a number above 0, over itself
+over_itself : (n : ℕ) (d : ℤ) → div binary64 (fin false (suc n) d) (fin false (suc n) d) ≡ round binary64 false 1 1
+over_itself n d =
+    let k = suc n * up d in
+    div_is false (suc n) d n d
+    ∙ round_same binary64 false (k * down d) (down d * k) 1 1 (mul-pos (down_pos d) (mul-pos (zero-lt-suc n) (up_pos d))) (zero-lt-suc 0)
+    (mul-one (k * down d) ∙ mul_comm k (down d) ∙ sym (one-mul (down d * k)))
+
+pub self_quotient : (x : Float) → Finite x → T (lt zeroᶠ x) → div binary64 x x ≡ round binary64 false 1 1
+self_quotient x f h = let a = above_zero x f h in subst (λ (x : Float). div binary64 x x ≡ round binary64 false 1 1) (sym a.is) (over_itself a.size a.power)
 
 -- ---- a divisor that grows
 -- v is at most w: n / r ≤ k / q. What stands over it grows smaller where it is not negative.
