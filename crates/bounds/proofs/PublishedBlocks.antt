@@ -1,20 +1,20 @@
 -- The published forms of the helpers beside document 01's, at what a block is handed. `max` and `min` stand for any that Rust allows. Assumes nothing.
-use Rattle.std.proofs.Common.{◌≡◌, ℕ, ◌+◌, ◌-◌, ◌*◌, ◌/◌, ◌^◌, ◌<◌, ◌≤◌, Bool, true, false, cond, not, ◌&&◌, ◌||◌, T, ◌⊎◌, ℤ, pos, negsuc, sym, refl, ap, ◌∙◌, subst, inl, inr, ⊎_elim, Option, Some, None, ap₂, add-mul, one-mul, div-le_self, div-mul-le_self, mul-one, mul-pos, mul-le-mul_right, zero-lt-suc, mul_assoc, mul_comm, mul_right_comm, true≢false, arith, lit≤}
+use Rattle.std.proofs.Common.{◌≡◌, ℕ, ◌+◌, ◌-◌, ◌*◌, ◌/◌, ◌^◌, ◌<◌, ◌≤◌, Bool, true, false, cond, not, ◌&&◌, ◌||◌, T, ◌⊎◌, ℤ, pos, negsuc, sym, refl, ap, ◌∙◌, subst, inl, inr, ⊎_elim, Option, Some, None, ap₂, add-mul, one-mul, div-le_self, div-mul-le_self, mul-one, mul-pos, mul-le-mul_right, zero-lt-suc, mul_assoc, mul_comm, mul_right_comm, true≢false, arith, lit≤, eqb, ltb, leb, leb→le, ltb→lt}
 use mathlib.Core.Bool.{and-false}
 use native.Mathlib.Nat.{lt-div-mul-add, le_trans as le_trans_nat, le_of_eq as le_of_eq_nat}
 use lib.Dec.{not_T}
 use Rattle.std.proofs.lemmas.Bool.{cond_both}
 use lib.Ieee.{Float, fin, binary64, low, up, down, round, sum, add, lt, eq, le, is_nan, fits}
-use lib.Ieee.Fits.{and_l, and_r, down_pos}
+use lib.Ieee.Fits.{and_l, and_r, down_pos, add-fits, mul-fits}
 use Rattle.std.proofs.lemmas.Float.{le_refl, lt_irrefl, lt_trans, lt_of_lt_of_le, le_of_not-lt, le_left, le_right, le_trans, le_of_lt, le_of_eq, eq_flip, eq_trans}
 use Rattle.f64_helpers.specs.F64.{◌⊕◌, ◌⊖◌, ◌⊗◌, ◌⊘◌, decimal, zero as zeroᶠ}
 use Rattle.f64_helpers.specs.Helpers as Today
 use Rattle.f64_helpers.specs.Helpers.{floor, negative, both_zero}
-use Rattle.f64_helpers.specs.Ranges.{NotMinusZero}
+use Rattle.f64_helpers.specs.Ranges.{NotMinusZero, Finite}
 use Rattle.f64_helpers.specs.Seconds.{Whole, IsTime, seconds}
 use Rattle.f64_helpers.proofs.Order.{le_numbers, lt_is_not_le}
 use Rattle.f64_helpers.proofs.Quotients.{Within, round_zero, div_is, sign_whole, next_below, rounded_within, floor_within, as_i64_whole, whole_held, fraction_held}
-use Rattle.f64_helpers.proofs.WholeSeconds.{sub_whole}
+use Rattle.f64_helpers.proofs.WholeSeconds.{sub_whole, eq_whole, zero_whole}
 use Rattle.f64_helpers.proofs.Times.{decimal_whole}
 use Rattle.cdl_recurrences.specs.CdlRecurrences.{clamp, hysteresis, sample_index, sample_due, sampler_output, initial_sample_time, true_delay_output, buildings_line}
 use Rattle.cdl_recurrences.proofs.SampleGrid.{sample_index_whole, initial_sample_time_whole}
@@ -27,12 +27,19 @@ use Rattle.bounds.specs.PublishedController.{buildings_line_over, true_delay_out
 use Rattle.f64_helpers.proofs.Tests.{yes}
 use Rattle.f64_helpers.proofs.EqualNumbers.{equal_of_le, equal_to_itself, zeros_equal, zero_not_nan, zeros_alike, zeros_not_below, plain_zero, sign_hidden, sum_same}
 use lib.Ieee.Bits.{is_true, is_false}
+use Rattle.f64_helpers.proofs.Intervals.{finite_number}
+use Rattle.f64_helpers.proofs.SignedZeros.{sum_not_minus_zero, difference_not_minus_zero}
+
+-- an f64 that is not -0.0, as an integrator or a flow
+pub record Held (x : Float) : Type 0 where
+  pub held : T (fits binary64 x)
+  pub not_minus_zero : NotMinusZero x
 
 -- ---- `hysteresis`, where u is a number and the low end is not above the high end
-pub hysteresis_same : (u low high : Float) (previous : Bool) → T (not (is_nan u)) → T (le low high) → published_hysteresis u low high previous ≡ hysteresis u low high previous
+pub hysteresis_same : (u low high : Float) (previous : Bool) → Finite u → T (le low high) → published_hysteresis u low high previous ≡ hysteresis u low high previous
 unfolding published_hysteresis hysteresis
-hysteresis_same u low high previous n h =
-    rw (lt_is_not_le u low n (le_numbers low high h).0) (go (lt high u) (le low u) previous (λ a. le_trans low high u h (le_of_lt high u a)))
+hysteresis_same u low high previous f h =
+    rw (lt_is_not_le u low (finite_number u f) (le_numbers low high h).0) (go (lt high u) (le low u) previous (λ a. le_trans low high u h (le_of_lt high u a)))
   where
     go : (above at_least previous : Bool) → (T above → T at_least) → cond above true (cond (not at_least) false previous) ≡ ((not previous && above) || (previous && at_least))
     go true true true f = refl
@@ -116,18 +123,10 @@ abbrev limited : Float → Float → Float
 limited value high = cond (lt high value) high value
 
 limited_le : (value high : Float) → T (not (is_nan value)) → T (le (limited value high) value)
-limited_le value high n = go (lt high value) (le_of_lt high value)
-  where
-    go : (b : Bool) → (T b → T (le high value)) → T (le (cond b high value) value)
-    go true f = f tt
-    go false f = le_refl value n
+limited_le value high n = cond_both (lt high value) high value (λ x. T (le x value)) (λ e. le_of_lt high value (yes e)) (λ e. le_refl value n)
 
 limited_ge : (value low high : Float) → T (le low high) → T (le low value) → T (le low (limited value high))
-limited_ge value low high h k = go (lt high value)
-  where
-    go : (b : Bool) → T (le low (cond b high value))
-    go true = h
-    go false = k
+limited_ge value low high h k = cond_both (lt high value) high value (λ x. T (le low x)) (λ e. h) (λ e. k)
 
 -- the larger of the low end and the smaller of the value and the high end is the value, limited
 clamp_numbers : (value low high m c : Float) → T (not (is_nan value)) → T (le low high) → T (eq m (limited value high)) → T (eq c (cond (lt low m) m low))
@@ -192,10 +191,12 @@ module _ (max min : Float → Float → Float) (rust_max : RustMax max) (rust_mi
       clamp_numbers value low high m (max low m) n h p (larger_equal max rust_max low m (le_left low high h) (le_left m (limited value high) (le_of_eq m (limited value high) p)))
 
   -- Between 0.0 and 1.0 it is the same in every bit, where the value is not -0.0.
-  pub clamp_same : (value : Float) → T (not (is_nan value)) → T (fits binary64 value) → NotMinusZero value
+  clamp_same : (value : Float) → T (not (is_nan value)) → T (fits binary64 value) → NotMinusZero value
       → published_clamp max min value zeroᶠ (decimal 1 1) ≡ clamp value zeroᶠ (decimal 1 1)
   unfolding published_clamp clamp
-  clamp_same value n f m = rw (smaller min rust_min value (decimal 1 1) n (one_no_zero value)) (go (lt (decimal 1 1) value) (λ k. k))
+  clamp_same value n f m =
+      rw (smaller min rust_min value (decimal 1 1) n (one_no_zero value))
+      (cond_both (lt (decimal 1 1) value) (decimal 1 1) value (λ x. max zeroᶠ x ≡ cond (lt value zeroᶠ) zeroᶠ x) (λ e. above (yes e)) (λ e. within))
     where
       above : T (lt (decimal 1 1) value) → max zeroᶠ (decimal 1 1) ≡ cond (lt value zeroᶠ) zeroᶠ (decimal 1 1)
       above k =
@@ -209,17 +210,20 @@ module _ (max min : Float → Float → Float) (rust_max : RustMax max) (rust_mi
           by_zero true e = rw (plain_zero value f m (yes e)) (zero_and_zero max rust_max)
           by_zero false e = larger max rust_max zeroᶠ value zero_number (zero_beside value ∙ e) ∙ one_below value n (λ k. true≢false (sym (is_true (eq value zeroᶠ) k) ∙ e))
 
-      go : (b : Bool) → (T b → T (lt (decimal 1 1) value)) → max zeroᶠ (cond b (decimal 1 1) value) ≡ cond (lt value zeroᶠ) zeroᶠ (cond b (decimal 1 1) value)
-      go true f = above (f tt)
-      go false f = within
+  -- So it is for a PI before its limits, whose integrator is not -0.0.
+  pub limits_same : (gain error integrator : Float) → Held integrator → Finite (gain ⊗ error ⊕ integrator)
+      → published_clamp max min (gain ⊗ error ⊕ integrator) zeroᶠ (decimal 1 1) ≡ clamp (gain ⊗ error ⊕ integrator) zeroᶠ (decimal 1 1)
+  limits_same gain error integrator kept f =
+      clamp_same (gain ⊗ error ⊕ integrator) (finite_number (gain ⊗ error ⊕ integrator) f) (add-fits binary64 (gain ⊗ error) integrator)
+      (sum_not_minus_zero (gain ⊗ error) integrator (mul-fits binary64 gain error) kept.held (inr kept.not_minus_zero))
 
-  -- ---- the line
-  pub line_same : (x1 f1 x2 f2 u : Float) → T (not (is_nan u)) → T (le x1 x2) → NotMinusZero (f2 ⊖ (f2 ⊖ f1) ⊘ (x2 ⊖ x1) ⊗ x2)
-      → buildings_line_over (published max min) x1 f1 x2 f2 u ≡ buildings_line x1 f1 x2 f2 u
+  -- ---- the line, of which f2 is an f64 that is not -0.0
+  pub line_same : (x1 f1 x2 f2 u : Float) → Finite u → T (le x1 x2) → Held f2 → buildings_line_over (published max min) x1 f1 x2 f2 u ≡ buildings_line x1 f1 x2 f2 u
   unfolding buildings_line_over buildings_line
-  line_same x1 f1 x2 f2 u n h b =
+  line_same x1 f1 x2 f2 u f h kept =
       let slope = (f2 ⊖ f1) ⊘ (x2 ⊖ x1) in
-      sum_same (f2 ⊖ slope ⊗ x2) slope (published_clamp max min u x1 x2) (clamp u x1 x2) b (clamp_equal u x1 x2 n h)
+      sum_same (f2 ⊖ slope ⊗ x2) slope (published_clamp max min u x1 x2) (clamp u x1 x2)
+      (difference_not_minus_zero f2 (slope ⊗ x2) kept.held (mul-fits binary64 slope x2) kept.not_minus_zero) (clamp_equal u x1 x2 (finite_number u f) h)
 
 -- ---- `sample_index` on whole seconds
 -- 1e-9, which is at most 1 / 256
@@ -300,6 +304,12 @@ module _ (max : Float → Float → Float) (rust : RustMax max) (d : Float) wher
   product_of_step x g n = step_hidden (λ z. x ⊕ g ⊗ z) (λ s t. sum_same x g _ _ n (zeros_alike _ _ (zeros_equal s) (zeros_equal t)))
 
 -- ---- the timing blocks
+length_no_zero : (n : ℕ) → T (ltb 0 n) → T (leb n 1800) → both_zero (decimal n 1) zeroᶠ ≡ false
+length_no_zero n P N = rw (eq_whole (decimal n 1) zeroᶠ n 0 (decimal_whole n (le_trans_nat (leb→le n 1800 N) (lit≤ tt))) zero_whole) (go n (ltb→lt 0 n P))
+  where
+    go : (n : ℕ) → 0 < n → (eqb n 0 && eq zeroᶠ zeroᶠ) ≡ false
+    go n P = grind arith
+
 -- a sample grid that starts on a whole second, which is not after t
 pub record Started (t0 t : Float) : Type 0 where
   pub whole : Whole t0 (seconds t0)
@@ -315,11 +325,16 @@ module _ (max min : Float → Float → Float) (rust_max : RustMax max) where
   delay_output_same t true delay_time delay_on_init (Some previous) previous_u held timer e n =
       rw (rust_max.off_zeros delay_time zeroᶠ e, step_added max rust_max (t ⊖ previous) timer n) refl
 
-  pub true_delay_same : (s : TrueDelayState) (t delay_time : Float) (delay_on_init : Bool) → both_zero delay_time zeroᶠ ≡ false → NotMinusZero s.timer → (input : Bool)
+  true_delay_same : (s : TrueDelayState) (t delay_time : Float) (delay_on_init : Bool) → both_zero delay_time zeroᶠ ≡ false → NotMinusZero s.timer → (input : Bool)
       → true_delay_over (published max min) s t input delay_time delay_on_init ≡ true_delay s t input delay_time delay_on_init
   unfolding true_delay_over true_delay
   true_delay_same s t delay_time delay_on_init e n input =
       rw (delay_output_same t input delay_time delay_on_init s.previous_time s.previous_input s.held s.timer e n) refl
+
+  -- of n seconds
+  pub delay_same : (n : ℕ) → T (ltb 0 n && leb n 1800) → (s : TrueDelayState) (t : Float) (delay_on_init : Bool) → NotMinusZero s.timer → (input : Bool)
+      → true_delay_over (published max min) s t input (decimal n 1) delay_on_init ≡ true_delay s t input (decimal n 1) delay_on_init
+  delay_same n h s t delay_on_init k input = true_delay_same s t (decimal n 1) delay_on_init (length_no_zero n (and_l (ltb 0 n) (leb n 1800) h) (and_r (ltb 0 n) (leb n 1800) h)) k input
 
   pub integral_same : (x : Float) (previous_time : Option Float) (t : Float) → NotMinusZero x → (g : Float)
       → x ⊕ g ⊗ step_seconds_over (published max min) previous_time t ≡ x ⊕ g ⊗ step_seconds previous_time t

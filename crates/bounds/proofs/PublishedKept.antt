@@ -21,7 +21,7 @@ use Rattle.bounds.proofs.Loops.{error_in, unlimited_finite}
 use Rattle.bounds.proofs.KeptBox.{loops_kept, outputs_in, damper_unlimited_finite}
 use Rattle.bounds.proofs.PublishedBlocks.{Started}
 use Rattle.bounds.proofs.PublishedStages as Stages
-use Rattle.bounds.proofs.PublishedStages.{Held, MemoriesKept, Signals, Handed}
+use Rattle.bounds.proofs.PublishedStages.{MemoriesKept, Signals, Handed}
 
 timer_sign : {last : Option Float} {delay : Float} {s : TrueDelayState} → KeptTrueDelay last delay s → NotMinusZero s.timer
 timer_sign {last} {delay} {s} k = clear_not_minus_zero s.timer k.sign_clear

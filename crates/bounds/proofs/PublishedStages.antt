@@ -1,16 +1,14 @@
 -- Stage by stage, and then whole: the controller over the published helpers gives what today's gives, at what it is handed. Assumes nothing.
 -- `Handed` lists that: plain facts of the readings, of the memories and of today's signals at this tick.
-use Rattle.std.proofs.Common.{◌≡◌, ℕ, ◌^◌, ◌<◌, ◌≤◌, Bool, true, false, cond, not, ◌&&◌, ◌||◌, T, eqb, ℤ, pos, refl, inl, inr, arith}
-use lib.Ieee.{Float, binary64, round, sub, neg, lt, eq, le, is_nan, fits}
-use lib.Ieee.Fits.{round-fits, neg-fits, mul-fits, add-fits}
+use Rattle.std.proofs.Common.{◌≡◌, ℕ, Bool, true, false, cond, not, ◌&&◌, ◌||◌, T, ℤ, pos, refl}
+use lib.Ieee.{Float, binary64, round, neg, lt, eq, le, fits}
+use lib.Ieee.Fits.{round-fits}
 use Rattle.f64_helpers.specs.F64.{◌⊕◌, ◌⊖◌, ◌⊗◌, ◌⊘◌, ◌≤ᶠ◌, decimal, zero}
 use Rattle.f64_helpers.specs.Helpers as Today
 use Rattle.f64_helpers.specs.Helpers.{both_zero, abs}
 use Rattle.f64_helpers.specs.Integers.{◌==ᶻ◌}
 use Rattle.f64_helpers.specs.Ranges.{NotMinusZero, Finite}
 use Rattle.f64_helpers.specs.Seconds.{IsTime}
-use Rattle.f64_helpers.proofs.WholeSeconds.{zero_whole, eq_whole}
-use Rattle.f64_helpers.proofs.Times.{decimal_whole}
 use Rattle.box_choices.specs.declared.Choices.{Choices}
 use Rattle.cdl_recurrences.specs.CdlRecurrences.{buildings_line, less_hysteretic, sample_due, sampler_output}
 use Rattle.cooling_only_controller_timing.specs.Timing.{sampler_sample}
@@ -38,18 +36,12 @@ use Rattle.air_box.specs.declared.Tick.{Tick}
 use Rattle.air_box.specs.declared.AirBox.{AirBox}
 use Rattle.bounds.specs.PublishedHelpers.{published, RustMax, RustMin}
 use Rattle.bounds.specs.PublishedController.{time_suppression_over, loop_pi_over, control_loops_over, setpoints_over, zone_states_over, damper_over, system_requests_over, alarms_over, controller_output_over}
-use Rattle.bounds.proofs.PublishedBlocks.{Started, hysteresis_same, clamp_same, line_same, true_delay_same, integral_same, sampler_same, unit_delay_same}
-use Rattle.f64_helpers.proofs.Intervals.{finite_number}
-use Rattle.f64_helpers.proofs.SignedZeros.{decimal_sign, sum_not_minus_zero}
+use Rattle.bounds.proofs.PublishedBlocks.{Held, Started, hysteresis_same, limits_same, line_same, delay_same, integral_same, sampler_same, unit_delay_same}
+use Rattle.f64_helpers.proofs.SignedZeros.{decimal_sign}
 use mathlib.Core.Bool.{and-false}
 use Rattle.std.proofs.lemmas.Bool.{cond_both}
 
 -- ---- what is handed
-
--- an integrator, or a flow: an f64 that is not -0.0
-pub record Held (x : Float) : Type 0 where
-  pub held : T (fits binary64 x)
-  pub not_minus_zero : NotMinusZero x
 
 -- the memories of each stage, at a tick at t
 pub record SuppressionKept (s : TimeSuppressionState) (t : Float) : Type 0 where
@@ -128,25 +120,27 @@ pub record Handed (box : AirBox) (k : Tick) : Type 0 where
   pub memories : MemoriesKept box.state k.t
   pub signals : Signals box.state k.t k.input box.choices
 
--- ---- literals
-delay_above_zero : (n : ℕ) → 0 < n → n ≤ 2 ^ 53 → both_zero (decimal n 1) zero ≡ false
-delay_above_zero n P N = rw (eq_whole (decimal n 1) zero n 0 (decimal_whole n N) zero_whole) (go n P)
-  where
-    go : (n : ℕ) → 0 < n → (eqb n 0 && eq zero zero) ≡ false
-    go n P = grind arith
-
+-- ---- the stages' numbers
 window_above_zero : (x : Float) → both_zero x (decimal 1800 1) ≡ false
 unfolding round eq
 window_above_zero x = and-false (eq x zero)
 
-zero_to_one : T (le zero (decimal 1 1))
-unfolding round le lt eq
-zero_to_one = tt
+-- the low end of each range is at most its high end
+record Ranges : Type 0 where
+  unit : T (le zero (decimal 1 1))
+  signal : T (le (decimal 1 100) (decimal 5 100))
+  tiebreak : T (le (neg (decimal 1 100)) (decimal 1 100))
+  hot_three : T (le (decimal 275 100) (decimal 3 1))
+  hot_two : T (le (decimal 175 100) (decimal 2 1))
+  high : T (le (decimal 94 100) (decimal 95 100))
+  flow : T (le (decimal 5 1000) (decimal 1 100))
 
--- an intercept
-intercept : (f2 y : Float) → T (fits binary64 f2) → NotMinusZero f2 → T (fits binary64 y) → NotMinusZero (f2 ⊖ y)
-unfolding sub
-intercept f2 y f n g = sum_not_minus_zero f2 (neg y) f (neg-fits binary64 y g) (inl n)
+ranges : Ranges
+unfolding round neg le lt eq
+ranges = assumption tt
+
+held_decimal : (n d : ℕ) → Held (decimal n d)
+held_decimal n d = record { held = round-fits binary64 false n d; not_minus_zero = decimal_sign n d }
 
 active_maximum : (mode : ℤ) (minimum : Float) (choices : Choices) → Held choices.design_cooling_maximum_flow → Held (active_airflow mode minimum choices).cooling_maximum
 unfolding active_airflow fits
@@ -154,35 +148,9 @@ active_maximum mode minimum choices maximum =
     cond_both (le_z (pos 1) mode && le_z mode (pos 3)) choices.design_cooling_maximum_flow zero Held (λ e. maximum) (λ e. record { held = tt; not_minus_zero = tt })
 
 -- what a sampler gives is the input or the number that it holds
-sampled_number : (s : SamplerState) (t input period : Float) → Finite s.held → Finite input → T (not (is_nan (sampler_sample s t input period).output))
+sampled_finite : (s : SamplerState) (t input period : Float) → Finite s.held → Finite input → Finite (sampler_sample s t input period).output
 unfolding sampler_sample sampler_output
-sampled_number s t input period h k =
-    finite_number _ (cond_both (not s.initialized || (sample_due t s.t0 period s.last_index).due) input s.held Finite (λ e. k) (λ e. h))
-
--- the ends of the bands
-low_signal : T (le (decimal 1 100) (decimal 5 100))
-unfolding round le lt eq
-low_signal = tt
-
-tiebreak : T (le (neg (decimal 1 100)) (decimal 1 100))
-unfolding round neg le lt eq
-tiebreak = tt
-
-hot_three_band : T (le (decimal 275 100) (decimal 3 1))
-unfolding round le lt eq
-hot_three_band = tt
-
-hot_two_band : T (le (decimal 175 100) (decimal 2 1))
-unfolding round le lt eq
-hot_two_band = tt
-
-high_band : T (le (decimal 94 100) (decimal 95 100))
-unfolding round le lt eq
-high_band = tt
-
-flow_band : T (le (decimal 5 1000) (decimal 1 100))
-unfolding round le lt eq
-flow_band = tt
+sampled_finite s t input period h k = cond_both (not s.initialized || (sample_due t s.t0 period s.last_index).due) input s.held Finite (λ e. k) (λ e. h)
 
 module _ (max min : Float → Float → Float) (rust_max : RustMax max) (rust_min : RustMin min) where
   -- ---- time suppression
@@ -196,7 +164,7 @@ module _ (max min : Float → Float → Float) (rust_max : RustMax max) (rust_mi
       rw (
         sampler_same max min rust_max s.setpoint_sampler t time kept.setpoint_grid,
         unit_delay_same max min rust_max s.previous_sample t time kept.previous_grid,
-        true_delay_same max min rust_max s.startup_delay t (decimal 120 1) true (delay_above_zero 120 (omega arith) (omega arith)) kept.startup_timer,
+        delay_same max min rust_max 120 tt s.startup_delay t true kept.startup_timer,
         window_same,
       )
       refl
@@ -207,8 +175,7 @@ module _ (max min : Float → Float → Float) (rust_max : RustMax max) (rust_mi
   unfolding loop_pi_over loop_pi
   loop_same s t error trigger kept n =
       rw (
-        clamp_same max min rust_max rust_min (loop_unlimited s error) (finite_number (loop_unlimited s error) n) (add-fits binary64 (decimal 1 10 ⊗ error) s.integrator)
-            (sum_not_minus_zero (decimal 1 10 ⊗ error) s.integrator (mul-fits binary64 (decimal 1 10) error) kept.held (inr kept.not_minus_zero)),
+        limits_same max min rust_max rust_min (decimal 1 10) error s.integrator kept n,
         integral_same max min rust_max s.integrator s.previous_time t kept.not_minus_zero,
       )
       refl
@@ -222,8 +189,8 @@ module _ (max min : Float → Float → Float) (rust_max : RustMax max) (rust_mi
       rw (
         loop_same s.cooling_pi t (zone_temperature ⊖ cooling_setpoint) cooling_enable kept.cooling_integrator signals.cooling_unlimited,
         loop_same s.heating_pi t (heating_setpoint ⊖ zone_temperature) heating_enable kept.heating_integrator signals.heating_unlimited,
-        true_delay_same max min rust_max s.cooling_delay t (decimal 30 1) false (delay_above_zero 30 (omega arith) (omega arith)) kept.cooling_timer,
-        true_delay_same max min rust_max s.heating_delay t (decimal 30 1) false (delay_above_zero 30 (omega arith) (omega arith)) kept.heating_timer,
+        delay_same max min rust_max 30 tt s.cooling_delay t false kept.cooling_timer,
+        delay_same max min rust_max 30 tt s.heating_delay t false kept.heating_timer,
       )
       refl
 
@@ -236,19 +203,14 @@ module _ (max min : Float → Float → Float) (rust_max : RustMax max) (rust_mi
   setpoints_same s input choices co2 band loop maximum =
       let low = input.co2_setpoint ⊖ decimal 200 1 in
       let corrected = cond (input.operating_mode ==ᶻ 1) (co2_loop_at input) zero in
-      let corrected_number = finite_number corrected (cond_both (input.operating_mode ==ᶻ 1) (co2_loop_at input) zero Finite (λ e. loop) (λ e. tt)) in
+      let corrected_finite : Finite corrected = cond_both (input.operating_mode ==ᶻ 1) (co2_loop_at input) zero Finite (λ e. loop) (λ e. tt) in
       let one = decimal 1 1 in
       let most = choices.design_cooling_maximum_flow in
       let least = choices.design_minimum_flow in
-      let people = decimal 5 1000 in
       rw (
-        line_same max min rust_max rust_min low zero input.co2_setpoint one input.co2_concentration (finite_number input.co2_concentration co2) band
-            (intercept one ((one ⊖ zero) ⊘ (input.co2_setpoint ⊖ low) ⊗ input.co2_setpoint) (round-fits binary64 false 1 1) (decimal_sign 1 1)
-            (mul-fits binary64 ((one ⊖ zero) ⊘ (input.co2_setpoint ⊖ low)) input.co2_setpoint)),
-        line_same max min rust_max rust_min zero least one most corrected corrected_number zero_to_one
-            (intercept most ((most ⊖ least) ⊘ (one ⊖ zero) ⊗ one) maximum.held maximum.not_minus_zero (mul-fits binary64 ((most ⊖ least) ⊘ (one ⊖ zero)) one)),
-        line_same max min rust_max rust_min zero zero one people corrected corrected_number zero_to_one
-            (intercept people ((people ⊖ zero) ⊘ (one ⊖ zero) ⊗ one) (round-fits binary64 false 5 1000) (decimal_sign 5 1000) (mul-fits binary64 ((people ⊖ zero) ⊘ (one ⊖ zero)) one)),
+        line_same max min rust_max rust_min low zero input.co2_setpoint one input.co2_concentration co2 band (held_decimal 1 1),
+        line_same max min rust_max rust_min zero least one most corrected corrected_finite ranges.unit maximum,
+        line_same max min rust_max rust_min zero zero one (decimal 5 1000) corrected corrected_finite ranges.unit (held_decimal 5 1000),
       )
       refl
 
@@ -257,9 +219,9 @@ module _ (max min : Float → Float → Float) (rust_max : RustMax max) (rust_mi
   unfolding zone_states_over zone_states
   zone_same s heating cooling h c d =
       rw (
-        hysteresis_same heating (decimal 1 100) (decimal 5 100) s.heating_signal (finite_number heating h) low_signal,
-        hysteresis_same cooling (decimal 1 100) (decimal 5 100) s.cooling_signal (finite_number cooling c) low_signal,
-        hysteresis_same (heating ⊖ cooling) (neg (decimal 1 100)) (decimal 1 100) s.heating_tiebreak (finite_number (heating ⊖ cooling) d) tiebreak,
+        hysteresis_same heating (decimal 1 100) (decimal 5 100) s.heating_signal h ranges.signal,
+        hysteresis_same cooling (decimal 1 100) (decimal 5 100) s.cooling_signal c ranges.signal,
+        hysteresis_same (heating ⊖ cooling) (neg (decimal 1 100)) (decimal 1 100) s.heating_tiebreak d ranges.tiebreak,
       )
       refl
 
@@ -275,12 +237,9 @@ module _ (max min : Float → Float → Float) (rust_max : RustMax max) (rust_mi
       let one = decimal 1 1 in
       let M = choices.design_cooling_maximum_flow in
       let setpoint = (damper s t input choices).output.airflow_setpoint in
-      let error = setpoint ⊘ M ⊖ input.discharge_airflow ⊘ M in
       rw (
-        line_same max min rust_max rust_min zero least one most input.cooling_loop (finite_number input.cooling_loop loop) zero_to_one
-            (intercept most ((most ⊖ least) ⊘ (one ⊖ zero) ⊗ one) maximum.held maximum.not_minus_zero (mul-fits binary64 ((most ⊖ least) ⊘ (one ⊖ zero)) one)),
-        clamp_same max min rust_max rust_min (damper_unlimited s setpoint input.discharge_airflow M) (finite_number _ n) (add-fits binary64 (decimal 5 10 ⊗ error) s.integrator)
-            (sum_not_minus_zero (decimal 5 10 ⊗ error) s.integrator (mul-fits binary64 (decimal 5 10) error) kept.held (inr kept.not_minus_zero)),
+        line_same max min rust_max rust_min zero least one most input.cooling_loop loop ranges.unit maximum,
+        limits_same max min rust_max rust_min (decimal 5 10) (setpoint ⊘ M ⊖ input.discharge_airflow ⊘ M) s.integrator kept n,
         integral_same max min rust_max s.integrator s.previous_time t kept.not_minus_zero,
       )
       refl
@@ -292,23 +251,22 @@ module _ (max min : Float → Float → Float) (rust_max : RustMax max) (rust_mi
   unfolding system_requests_over system_requests
   requests_same s t input choices time kept error loop airflow position =
       let difference = input.zone_temperature ⊖ input.cooling_setpoint in
-      let difference_is = finite_number difference error in
       let cooling = sampler_sample s.cooling_sampler t input.cooling_loop (decimal 120 1) in
       let airflow_setpoint = sampler_sample s.setpoint_sampler t input.airflow_setpoint (decimal 120 1) in
       let command = sampler_sample s.damper_sampler t input.damper_position (decimal 120 1) in
       rw (
-        hysteresis_same difference (decimal 275 100) (decimal 3 1) s.hot_three difference_is hot_three_band,
-        hysteresis_same difference (decimal 175 100) (decimal 2 1) s.hot_two difference_is hot_two_band,
-        true_delay_same max min rust_max s.hot_three_delay t (decimal 120 1) choices.quiet (delay_above_zero 120 (omega arith) (omega arith)) kept.hot_three_timer,
-        true_delay_same max min rust_max s.hot_two_delay t (decimal 120 1) choices.quiet (delay_above_zero 120 (omega arith) (omega arith)) kept.hot_two_timer,
+        hysteresis_same difference (decimal 275 100) (decimal 3 1) s.hot_three error ranges.hot_three,
+        hysteresis_same difference (decimal 175 100) (decimal 2 1) s.hot_two error ranges.hot_two,
+        delay_same max min rust_max 120 tt s.hot_three_delay t choices.quiet kept.hot_three_timer,
+        delay_same max min rust_max 120 tt s.hot_two_delay t choices.quiet kept.hot_two_timer,
         sampler_same max min rust_max s.cooling_sampler t time kept.cooling_grid,
         sampler_same max min rust_max s.setpoint_sampler t time kept.setpoint_grid,
         sampler_same max min rust_max s.discharge_sampler t time kept.discharge_grid,
         sampler_same max min rust_max s.damper_sampler t time kept.damper_grid,
-        hysteresis_same cooling.output (decimal 94 100) (decimal 95 100) s.cooling_high (sampled_number s.cooling_sampler t input.cooling_loop (decimal 120 1) kept.cooling_held loop) high_band,
-        hysteresis_same airflow_setpoint.output (decimal 5 1000) (decimal 1 100) s.setpoint_on (sampled_number s.setpoint_sampler t input.airflow_setpoint (decimal 120 1) kept.setpoint_held airflow) flow_band,
-        hysteresis_same command.output (decimal 94 100) (decimal 95 100) s.damper_high (sampled_number s.damper_sampler t input.damper_position (decimal 120 1) kept.damper_held position) high_band,
-        true_delay_same max min rust_max s.damper_delay t (decimal 60 1) choices.quiet (delay_above_zero 60 (omega arith) (omega arith)) kept.damper_timer,
+        hysteresis_same cooling.output (decimal 94 100) (decimal 95 100) s.cooling_high (sampled_finite s.cooling_sampler t input.cooling_loop (decimal 120 1) kept.cooling_held loop) ranges.high,
+        hysteresis_same airflow_setpoint.output (decimal 5 1000) (decimal 1 100) s.setpoint_on (sampled_finite s.setpoint_sampler t input.airflow_setpoint (decimal 120 1) kept.setpoint_held airflow) ranges.flow,
+        hysteresis_same command.output (decimal 94 100) (decimal 95 100) s.damper_high (sampled_finite s.damper_sampler t input.damper_position (decimal 120 1) kept.damper_held position) ranges.high,
+        delay_same max min rust_max 60 tt s.damper_delay t choices.quiet kept.damper_timer,
       )
       refl
 
@@ -317,16 +275,14 @@ module _ (max min : Float → Float → Float) (rust_max : RustMax max) (rust_mi
       → alarms_over (published max min) s t input choices ≡ alarms s t input choices
   unfolding alarms_over alarms
   alarms_same s t input choices kept setpoint =
-      let five_minutes = delay_above_zero 300 (omega arith) (omega arith) in
-      let ten_minutes = delay_above_zero 600 (omega arith) (omega arith) in
       rw (
-        true_delay_same max min rust_max s.fan_armed t (decimal 1800 1) false (delay_above_zero 1800 (omega arith) (omega arith)) kept.fan_timer,
-        hysteresis_same input.active_airflow_setpoint (decimal 5 1000) (decimal 1 100) s.setpoint_nonzero (finite_number input.active_airflow_setpoint setpoint) flow_band,
-        true_delay_same max min rust_max s.setpoint_on t (decimal 300 1) choices.quiet five_minutes kept.setpoint_timer,
-        true_delay_same max min rust_max s.low_half_delay t (decimal 300 1) choices.quiet five_minutes kept.low_half_timer,
-        true_delay_same max min rust_max s.low_seventy_delay t (decimal 300 1) choices.quiet five_minutes kept.low_seventy_timer,
-        true_delay_same max min rust_max s.sensor_delay t (decimal 600 1) choices.quiet ten_minutes kept.sensor_timer,
-        true_delay_same max min rust_max s.leak_delay t (decimal 600 1) choices.quiet ten_minutes kept.leak_timer,
+        delay_same max min rust_max 1800 tt s.fan_armed t false kept.fan_timer,
+        hysteresis_same input.active_airflow_setpoint (decimal 5 1000) (decimal 1 100) s.setpoint_nonzero setpoint ranges.flow,
+        delay_same max min rust_max 300 tt s.setpoint_on t choices.quiet kept.setpoint_timer,
+        delay_same max min rust_max 300 tt s.low_half_delay t choices.quiet kept.low_half_timer,
+        delay_same max min rust_max 300 tt s.low_seventy_delay t choices.quiet kept.low_seventy_timer,
+        delay_same max min rust_max 600 tt s.sensor_delay t choices.quiet kept.sensor_timer,
+        delay_same max min rust_max 600 tt s.leak_delay t choices.quiet kept.leak_timer,
       )
       refl
 

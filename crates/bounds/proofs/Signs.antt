@@ -1,7 +1,7 @@
 -- No integrator becomes -0.0: a sum is -0.0 only if both parts are, and a reset stores minus a number above 0, or 0.01 less one. Assumes nothing.
 use Rattle.std.proofs.Common.{refl, Bool, true, false, not, ◌&&◌, ◌||◌, T, subst, pos, negsuc, inl}
 use lib.Ieee.{Float, fin, binary64, round, neg, add, sub, mul, lt, eq, le, fits}
-use lib.Ieee.Fits.{add-fits, sub-fits, mul-fits, neg-fits}
+use lib.Ieee.Fits.{add-fits, sub-fits, mul-fits, neg-fits, round-fits}
 use Rattle.std.proofs.lemmas.Float.{le_trans, lt_of_lt_of_le}
 use Rattle.f64_helpers.specs.F64.{◌⊕◌, ◌⊖◌, ◌⊗◌, ◌<ᶠ◌, ◌≤ᶠ◌, decimal, zero}
 use Rattle.f64_helpers.specs.Ranges.{Between, Finite, NotMinusZero}
@@ -24,7 +24,7 @@ use Rattle.bounds.specs.PublishedAgrees.{LoopReadingsHeld}
 use Rattle.bounds.proofs.Accepted.{Readings}
 use Rattle.bounds.specs.Limits.{COLDEST, HOTTEST}
 use Rattle.bounds.specs.Kept.{KeptLoopSign, KeptSigns}
-use Rattle.f64_helpers.proofs.SignedZeros.{opposite_sign, sum_not_minus_zero}
+use Rattle.f64_helpers.proofs.SignedZeros.{opposite_sign, sum_not_minus_zero, decimal_sign, difference_not_minus_zero}
 use Rattle.f64_helpers.proofs.Tests.{yes}
 use Rattle.std.proofs.lemmas.Bool.{cond_both}
 
@@ -97,17 +97,12 @@ signs_fresh = record {
   damper_sign = tt;
 }
 
--- 0.01 less a number
-lowered_sign : (z : Float) → T (fits binary64 z) → NotMinusZero (decimal 1 100 ⊖ z)
-unfolding sub round fits eq
-lowered_sign z f = sum_not_minus_zero (decimal 1 100) (neg z) tt (neg-fits binary64 z f) (inl tt)
-
 pub damper_signs : (s : DamperState) (t : Float) (input : DamperInput) (choices : Choices) → T (fits binary64 s.integrator) → NotMinusZero s.integrator
     → T (fits binary64 (damper s t input choices).state.integrator) × NotMinusZero (damper s t input choices).state.integrator
 unfolding damper
 damper_signs s t input choices f n = (
   cond_both (input.supply_fan_status && not s.previous_fan) _ _ Fits (λ e. sub-fits binary64 (decimal 1 100) _) (λ e. add-fits binary64 s.integrator _),
-  cond_both (input.supply_fan_status && not s.previous_fan) _ _ NotMinusZero (λ e. lowered_sign _ (mul-fits binary64 _ _)) (λ e. sum_not_minus_zero s.integrator _ f (mul-fits binary64 _ _) (inl n)),
+  cond_both (input.supply_fan_status && not s.previous_fan) _ _ NotMinusZero (λ e. difference_not_minus_zero (decimal 1 100) _ (round-fits binary64 false 1 100) (mul-fits binary64 _ _) (decimal_sign 1 100)) (λ e. sum_not_minus_zero s.integrator _ f (mul-fits binary64 _ _) (inl n)),
 )
 
 -- over an accepted tick

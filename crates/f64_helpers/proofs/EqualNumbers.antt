@@ -60,7 +60,8 @@ add_nothing s t a b c z h = rw z (go s t h)
     less_nothing : a - 0 ≡ a
     less_nothing = omega arith
 
-    go : (s t : Bool) → (T s → 0 < a) → cond (beq s t) (round binary64 s (a + 0) c) (cond (ltb a 0) (round binary64 t (0 - a) c) (round binary64 (s && ltb 0 a) (a - 0) c)) ≡ round binary64 s a c
+    go : (s t : Bool) → (T s → 0 < a)
+        → cond (beq s t) (round binary64 s (a + 0) c) (cond (ltb a 0) (round binary64 t (0 - a) c) (round binary64 (s && ltb 0 a) (a - 0) c)) ≡ round binary64 s a c
     go true true h = ap (λ (n : ℕ). round binary64 true n c) (add-zero a)
     go false false h = ap (λ (n : ℕ). round binary64 false n c) (add-zero a)
     go true false h = rw (not_below, lt-ltb 0 a (h tt), less_nothing)
@@ -107,7 +108,8 @@ infinite_product r s t (suc m) zero e d h =
     absurd (some_size m (up e) (down d) (up_pos e) (down_pos d) ((level_means s t (suc m * up e * down d) (0 * up d * down e) h).0 ∙ nothing_times (up d) (down e)))
 infinite_product r s t (suc m) (suc n) e d h =
     rw (eqb-suc-zero m, eqb-suc-zero n)
-    (⊎_elim (λ same. ap (λ (s : Bool). inf (unlike r s)) same) (λ z. absurd (some_size m (up e) (down d) (up_pos e) (down_pos d) z)) (level_means s t (suc m * up e * down d) (suc n * up d * down e) h).1)
+    (⊎_elim (λ same. ap (λ (s : Bool). inf (unlike r s)) same)
+    (λ z. absurd (some_size m (up e) (down d) (up_pos e) (down_pos d) z)) (level_means s t (suc m * up e * down d) (suc n * up d * down e) h).1)
 
 -- ±k / c times ±a / p and times ±b / q, where a / p is b / q
 finite_product : (r s t : Bool) (k c a p b q : ℕ) → 0 < c → 0 < p → 0 < q → a * q ≡ b * p → (s ≡ t) ⊎ (a * q ≡ 0)

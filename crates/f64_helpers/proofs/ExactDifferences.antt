@@ -126,7 +126,8 @@ pub at_right : (a c d n : ℕ) → a * one ≡ n * d → a * c * one ≡ n * (c 
 at_right a c d n h = at_left a d c n h ∙ ap (λ (x : ℕ). n * x) (mul_comm d c)
 
 at_one_scale : (P : Float → Float → Type 0) (n k : ℕ)
-    → ((s t : Bool) (m a : ℕ) (e d : ℤ) → 0 < down e * down d → m * up e * down d * one ≡ n * (down e * down d) → a * up d * down e * one ≡ k * (down e * down d) → (T s → n ≡ 0) → (T t → k ≡ 0) → P (fin s m e) (fin t a d))
+    → ((s t : Bool) (m a : ℕ) (e d : ℤ) → 0 < down e * down d → m * up e * down d * one ≡ n * (down e * down d) → a * up d * down e * one ≡ k * (down e * down d)
+    → (T s → n ≡ 0) → (T t → k ≡ 0) → P (fin s m e) (fin t a d))
     → (x y : Float) → InUnits x n → InUnits y k → P x y
 at_one_scale P n k f nan y u v = absurd u
 at_one_scale P n k f (inf s) y u v = absurd u

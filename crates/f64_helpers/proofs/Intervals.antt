@@ -178,12 +178,12 @@ if_in false x y h k = k
 -- x is at most k, or at least k
 pub at_most_or_least : (x k : Float) → Finite x → Finite k → T (x ≤ᶠ k) ⊎ T (k ≤ᶠ x)
 at_most_or_least x k f g = elim (in_order x k) [
-    | inl h ↦ inl h
-    | inr r ↦ elim r [
-        | inl h ↦ inr (le_of_lt k x h)
-        | inr n ↦ elim n [ inl a ↦ absurd (T_not (is_nan x) (finite_number x f) a) | inr b ↦ absurd (T_not (is_nan k) (finite_number k g) b) ]
-    ]
+  | inl h ↦ inl h
+  | inr r ↦ elim r [
+    | inl h ↦ inr (le_of_lt k x h)
+    | inr n ↦ elim n [ inl a ↦ absurd (T_not (is_nan x) (finite_number x f) a) | inr b ↦ absurd (T_not (is_nan k) (finite_number k g) b) ]
   ]
+]
 
 -- either end of a range cut at k
 pub cut : {low x high : Float} (k : Float) → Finite low → Finite high → Finite k → Between low x high → Between low x k ⊎ Between k x high
@@ -223,7 +223,8 @@ max_zero_in {a} {x} {b} {high} p t =
     let e = ends_are a b s.0 in
     let h = split (b ≤ᶠ high) (zero ≤ᶠ high) s.1 in
     let f = finite_between e.0 e.1 p in
-    go (is_nan x) (lt x zero) (eq x zero && eq zero zero) (le_trans x b high p.to_high h.0) (zero_in false high h.1) (zero_in (negative x && false) high h.1) (le_of_not-lt x zero (finite_number x f) (finite_number zero tt))
+    go (is_nan x) (lt x zero) (eq x zero && eq zero zero) (le_trans x b high p.to_high h.0) (zero_in false high h.1) (zero_in (negative x && false) high h.1)
+    (le_of_not-lt x zero (finite_number x f) (finite_number zero tt))
   where
     go : (n l z : Bool) → T (x ≤ᶠ high) → Between zero zero high → Between zero (fin (negative x && false) 0 (pos 0)) high → (T (not l) → T (zero ≤ᶠ x))
         → Between zero (cond n zero (cond l zero (cond z (fin (negative x && false) 0 (pos 0)) x))) high
@@ -239,7 +240,8 @@ min_in {x} {b} p c t =
     let s = split (is_finite b) (is_finite c && (zero ≤ᶠ c)) t in
     let h = split (is_finite c) (zero ≤ᶠ c) s.1 in
     let f = finite_between {low = zero} tt s.0 p in
-    go (is_nan x) (lt c x) (eq x zero && eq c zero) (record { from_low = h.1; to_high = le_refl c (finite_number c h.0) }) (zero_in (negative x || negative c) c h.1) (le_of_not-lt c x (finite_number c h.0) (finite_number x f))
+    go (is_nan x) (lt c x) (eq x zero && eq c zero) (record { from_low = h.1; to_high = le_refl c (finite_number c h.0) }) (zero_in (negative x || negative c) c h.1)
+    (le_of_not-lt c x (finite_number c h.0) (finite_number x f))
   where
     go : (n l z : Bool) → Between zero c c → Between zero (fin (negative x || negative c) 0 (pos 0)) c → (T (not l) → T (x ≤ᶠ c))
         → Between zero (cond n c (cond l c (cond z (fin (negative x || negative c) 0 (pos 0)) x))) c

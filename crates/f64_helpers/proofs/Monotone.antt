@@ -122,7 +122,9 @@ zero_products : (s : Bool) (m : ℕ) (e : ℤ) (s' : Bool) (m' : ℕ) (e' : ℤ)
     → T (le (mul binary64 (fin s m e) (fin true n d)) (mul binary64 (fin s' m' e') (fin true n d)))
 unfolding mul
 zero_products s m e s' m' e' n d z =
-    subst T (λ i. le (sym (nothing s true (m * up e) (n * up d) (down e * down d) z (mul-pos (down_pos e) (down_pos d))) i) (sym (nothing s' true (m' * up e') (n * up d) (down e' * down d) z (mul-pos (down_pos e') (down_pos d))) i))
+    subst T
+    (λ i. le (sym (nothing s true (m * up e) (n * up d) (down e * down d) z (mul-pos (down_pos e) (down_pos d))) i)
+    (sym (nothing s' true (m' * up e') (n * up d) (down e' * down d) z (mul-pos (down_pos e') (down_pos d))) i))
     (zeros_level (unlike s true) (unlike s' true))
 
 -- x at most x', and k not below 0
@@ -247,6 +249,7 @@ div_shrinks x v w f g g' p h =
     let a = above_zero v g p in
     let b = above_zero w g' (lt_of_lt_of_le zeroᶠ v w p h) in
     let o = as_fractions (suc a.size) a.power (suc b.size) b.power (subst T (λ i. le (a.is i) (b.is i)) h) in
-    let r = over_larger x a.size a.power b.size b.power f o in
-    (λ q. subst T (λ i. le (div binary64 x (sym b.is i)) (div binary64 x (sym a.is i))) (r.0 q),
-    λ q. subst T (λ i. le (div binary64 x (sym a.is i)) (div binary64 x (sym b.is i))) (r.1 q))
+    let r = over_larger x a.size a.power b.size b.power f o in (
+      λ q. subst T (λ i. le (div binary64 x (sym b.is i)) (div binary64 x (sym a.is i))) (r.0 q),
+      λ q. subst T (λ i. le (div binary64 x (sym a.is i)) (div binary64 x (sym b.is i))) (r.1 q),
+    )

@@ -4,11 +4,11 @@ use Prim.Native.Nat.{compare}
 use mathlib.Core.Bool.{beq}
 use native.Mathlib.Nat.{eq-zero-or-pos}
 use lib.Dec.{not_T}
-use lib.Ieee.{Float, nan, inf, fin, Format, binary64, prec, emax, low, up, down, nearest, odd, units, round, size, level, sum, neg, add, lt, eq, le, fits}
-use lib.Ieee.Fits.{and_r, down_pos}
+use lib.Ieee.{Float, nan, inf, fin, Format, binary64, prec, emax, low, up, down, nearest, odd, units, round, size, level, sum, neg, add, sub, lt, eq, le, fits}
+use lib.Ieee.Fits.{and_r, down_pos, neg-fits}
 use lib.Ieee.Order.{round_mono}
 use Rattle.std.proofs.lemmas.Float.{lt_of_lt_of_le, le_of_eq, eq_flip}
-use Rattle.f64_helpers.specs.F64.{◌⊕◌, ◌≤ᶠ◌, decimal, zero as zeroᶠ}
+use Rattle.f64_helpers.specs.F64.{◌⊕◌, ◌⊖◌, ◌≤ᶠ◌, decimal, zero as zeroᶠ}
 use Rattle.f64_helpers.specs.Helpers.{negative}
 use Rattle.f64_helpers.specs.Ranges.{Finite, NotMinusZero}
 use Rattle.f64_helpers.proofs.Values.{in_places}
@@ -52,7 +52,9 @@ infinity_sign s = not_minus_zero (inf s) (λ h. unfold eq in h)
 pub opposite_sign : (p : Float) → T (lt zeroᶠ p) → NotMinusZero (neg p)
 opposite_sign p h =
     not_minus_zero (neg p)
-    (λ e. none (lt_of_lt_of_le zeroᶠ p (neg zeroᶠ) h (subst (λ (z : Float). T (le z (neg zeroᶠ))) (neg_neg p) (le_turned zeroᶠ (neg p) (le_of_eq zeroᶠ (neg p) (eq_flip (neg p) zeroᶠ e))))))
+    (λ e.
+    let under : T (le (neg (neg p)) (neg zeroᶠ)) = le_turned zeroᶠ (neg p) (le_of_eq zeroᶠ (neg p) (eq_flip (neg p) zeroᶠ e)) in
+    none (lt_of_lt_of_le zeroᶠ p (neg zeroᶠ) h (subst (λ (z : Float). T (le z (neg zeroᶠ))) (neg_neg p) under)))
   where
     none : T (lt zeroᶠ (neg zeroᶠ)) → ⊥
     none k = unfold neg lt in k
@@ -136,7 +138,9 @@ units_sign_of_sum s t a b c i j C p q h = go (beq s t) (ltb a b) (ltb b a) (λ e
 
     go : (like less more : Bool) → (T like → T s → T t) → (T less → a < b) → (T more → b < a)
         → NotMinusZero (cond like (round binary64 s (a + b) c) (cond less (round binary64 t (b - a) c) (round binary64 (s && more) (a - b) c)))
-    go true less more e f g = fraction_sign s (a + b) c C (λ u. at_least_one (a + b) 0 (a + b) c 0 (i + j) (omega arith) (omega (arith, zero-mul one, zero-mul c)) total (h u (e tt u)))
+    go true less more e f g =
+        fraction_sign s (a + b) c C
+        (λ u. at_least_one (a + b) 0 (a + b) c 0 (i + j) (omega arith) (omega (arith, zero-mul one, zero-mul c)) total (h u (e tt u)))
     go false true more e f g = fraction_sign t (b - a) c C (λ u. at_least_one (b - a) a b c i j (omega (arith, f tt)) p q (omega (arith, f tt)))
     go false false more e f g =
         fraction_sign (s && more) (a - b) c C
@@ -161,10 +165,15 @@ sum_not_minus_zero (fin s m e) (fin t k d) f g n =
     let b = k * up d in
     units_sign_of_sum s t (a * down d) (b * down e) (down e * down d) (p.digits * 2 ^ p.places) (q.digits * 2 ^ q.places) (mul-pos (down_pos e) (down_pos d))
     (at_left a (down e) (down d) (p.digits * 2 ^ p.places) p.in_units) (at_right b (down e) (down d) (q.digits * 2 ^ q.places) q.in_units)
-    (λ u v. ⊎_elim (λ x. first_part a (b * down e) (down d) (down_pos d) (size_above_zero s m e x u)) (λ y. second_part (a * down d) b (down e) (down_pos e) (size_above_zero t k d y v)) n)
+    (λ u v. ⊎_elim (λ x. first_part a (b * down e) (down d) (down_pos d) (size_above_zero s m e x u))
+    (λ y. second_part (a * down d) b (down e) (down_pos e) (size_above_zero t k d y v)) n)
   where
     first_part : (x y d : ℕ) → 0 < d → 0 < x * 1 → 0 < x * d + y
     first_part x y d D h = omega (arith, mul-pos (subst (λ (z : ℕ). 0 < z) (mul-one x) h) D)
 
     second_part : (x y d : ℕ) → 0 < d → 0 < y * 1 → 0 < x + y * d
     second_part x y d D h = omega (arith, mul-pos (subst (λ (z : ℕ). 0 < z) (mul-one y) h) D)
+
+pub difference_not_minus_zero : (x y : Float) → T (fits binary64 x) → T (fits binary64 y) → NotMinusZero x → NotMinusZero (x ⊖ y)
+unfolding sub
+difference_not_minus_zero x y f g n = sum_not_minus_zero x (neg y) f (neg-fits binary64 y g) (inl n)
