@@ -2,12 +2,11 @@
 use Rattle.std.proofs.Common.{refl, ℕ, Bool, true, false, not, ◌&&◌, T, sym, subst, ℤ, pos, negsuc, if◌then◌else◌, Some, Option, eqb→eq}
 use Rattle.std.specs.Int.Signed.{le_z}
 use lib.Ieee.{Float, round, neg, add, sub, mul, div, lt, eq, le}
-use lib.Ieee.Fits.{and_l, and_r}
 use Rattle.std.proofs.lemmas.Float.{le_trans}
-use Rattle.f64_helpers.specs.F64.{◌⊕◌, ◌⊖◌, ◌⊗◌, ◌⊘◌, ◌≤ᶠ◌, decimal, zero}
+use Rattle.f64_helpers.specs.F64.{◌⊕◌, ◌⊖◌, ◌⊗◌, ◌⊘◌, ◌≤ᶠ◌, decimal, zero, ◌<ᶠ◌}
 use Rattle.f64_helpers.specs.Integers.{◌==ᶻ◌}
-use Rattle.f64_helpers.specs.Ranges.{Between, Finite}
-use Rattle.f64_helpers.proofs.Intervals.{finite_between, add_in, sub_in, mul_in_turned, div_in, if_in}
+use Rattle.f64_helpers.specs.Ranges.{Between, Finite, is_finite}
+use Rattle.f64_helpers.proofs.Intervals.{finite_between, add_in, sub_in, mul_in_turned, div_in, if_in, ends, inside, around_zero, between}
 use Rattle.f64_helpers.proofs.Monotone.{div_mono, self_quotient}
 use Rattle.box_choices.specs.declared.Choices.{Choices}
 use Rattle.cdl_recurrences.specs.CdlRecurrences.{buildings_line, clamp, greater_hysteretic}
@@ -20,7 +19,9 @@ use Rattle.cooling_only_controller_airflow.specs.declared.DamperOutput.{DamperOu
 use Rattle.cooling_only_controller_timing.specs.declared.Step.{Step}
 use Rattle.bounds.specs.Limits.{LONGEST_STEP, HIGHEST_FLOW, DAMPER_GAIN, DAMPER_INTEGRAL_TIME, next_integrator}
 use Rattle.bounds.specs.Kept.{KeptDamper}
-use Rattle.bounds.proofs.Pi.{damper_next, any_damper_next}
+use Rattle.cooling_only_controller_timing.specs.Timing.{step_seconds}
+use Rattle.bounds.proofs.PiRange.{Tables, between_ends}
+use Rattle.bounds.proofs.Pi.{damper_tables, any_damper_tables}
 use Rattle.bounds.proofs.Timing.{Accepted}
 use Rattle.bounds.proofs.Loops.{dt_in}
 use Rattle.bounds.proofs.Flows.{FlowsIn, Flow, no_flow, chosen_flow, flow_line, at_minimum, at_maximum, maximum_finite, maximum_above_zero}
@@ -30,64 +31,56 @@ use Rattle.bounds.proofs.Flows.{FlowsIn, Flow, no_flow, chosen_flow, flow_line, 
 pub record Size (smallest error end : Float) : Type 0 where
   pub error_in : {setpoint flow maximum : Float} → Between zero setpoint (decimal 1 1) → Between (neg HIGHEST_FLOW) flow HIGHEST_FLOW → Between smallest maximum (decimal 10 1)
       → Between (neg error) (setpoint ⊖ flow ⊘ maximum) error
-  pub next_in : {integrator e dt : Float} → Between (neg error) e error → Between (neg end) integrator end → Between zero dt LONGEST_STEP
+  pub next_in : (integrator e dt : Float) → Between (neg error) e error → Between (neg end) integrator end → Between zero dt LONGEST_STEP
       → Between (neg end) (next_integrator DAMPER_GAIN DAMPER_INTEGRAL_TIME integrator e dt) end
   pub reset_in : {e : Float} → Between (neg error) e error → Between (neg end) (decimal 1 100 ⊖ DAMPER_GAIN ⊗ e) end
   pub unlimited_finite : {integrator e : Float} → Between (neg error) e error → Between (neg end) integrator end → Finite (DAMPER_GAIN ⊗ e ⊕ integrator)
   pub end_from_zero : Between (neg end) zero end
 
-usual_error : {setpoint flow maximum : Float} → Between zero setpoint (decimal 1 1) → Between (neg HIGHEST_FLOW) flow HIGHEST_FLOW → Between (decimal 15 10) maximum (decimal 10 1)
-    → Between (neg (decimal 8 1)) (setpoint ⊖ flow ⊘ maximum) (decimal 8 1)
-unfolding round neg add sub div le lt eq
-usual_error s f m = let q : Between (neg (decimal 7 1)) _ (decimal 7 1) = div_in f m tt in sub_in s q tt
+-- Tests of the ends, for the flow over the maximum within `quotient`, the proportional part within `part`, and its sum with the integrator within `sum`. Of literals each computes.
+record Tests (smallest quotient error part sum end : Float) : Type 0 where
+  flow : T (ends (neg HIGHEST_FLOW) HIGHEST_FLOW && ends smallest (decimal 10 1) && (around_zero (neg HIGHEST_FLOW) HIGHEST_FLOW && (zero <ᶠ smallest))
+      && inside (neg quotient) (neg HIGHEST_FLOW ⊘ smallest) (HIGHEST_FLOW ⊘ smallest) quotient)
+  difference : T (ends zero (decimal 1 1) && ends (neg quotient) quotient && inside (neg error) (zero ⊖ quotient) (decimal 1 1 ⊖ neg quotient) error)
+  gain : T ((zero ≤ᶠ DAMPER_GAIN) && (DAMPER_GAIN ≤ᶠ DAMPER_GAIN))
+  proportional : T (ends (neg error) error && is_finite DAMPER_GAIN && around_zero (neg error) error && inside (neg part) (neg error ⊗ DAMPER_GAIN) (error ⊗ DAMPER_GAIN) part)
+  hundredth : T ((decimal 1 100 ≤ᶠ decimal 1 100) && (decimal 1 100 ≤ᶠ decimal 1 100))
+  reset : T (ends (decimal 1 100) (decimal 1 100) && ends (neg part) part && inside (neg end) (decimal 1 100 ⊖ part) (decimal 1 100 ⊖ neg part) end)
+  unlimited : T (ends (neg part) part && ends (neg end) end && inside (neg sum) (neg part ⊕ neg end) (part ⊕ end) sum)
+  sum_finite : Finite (neg sum) × Finite sum
+  end_around : T ((neg end ≤ᶠ zero) && (zero ≤ᶠ end))
 
-gain_in : Between zero DAMPER_GAIN DAMPER_GAIN
-unfolding round le lt eq
-gain_in = record { from_low = tt; to_high = tt }
+size : {smallest quotient error part sum end wide : Float} → Tests smallest quotient error part sum end → Tables DAMPER_GAIN DAMPER_INTEGRAL_TIME error LONGEST_STEP end wide → Size smallest error end
+size {smallest} {quotient} {error} {part} {sum} {end} t tables = record {
+  error_in = λ s f m. sub_in s (over f m) t.difference;
+  next_in = between_ends tables;
+  reset_in = λ b. sub_in (between t.hundredth) (proportional_in b) t.reset;
+  unlimited_finite = λ b i. finite_between t.sum_finite.0 t.sum_finite.1 (total b i);
+  end_from_zero = between t.end_around;
+}
+  where
+    over : {flow maximum : Float} → Between (neg HIGHEST_FLOW) flow HIGHEST_FLOW → Between smallest maximum (decimal 10 1) → Between (neg quotient) (flow ⊘ maximum) quotient
+    over f m = div_in f m t.flow
 
-usual_reset : {e : Float} → Between (neg (decimal 8 1)) e (decimal 8 1) → Between (neg (decimal 16 1)) (decimal 1 100 ⊖ DAMPER_GAIN ⊗ e) (decimal 16 1)
-unfolding round neg add sub mul le lt eq
-usual_reset e =
-    let p : Between (neg (decimal 4 1)) _ (decimal 4 1) = mul_in_turned e gain_in tt in
-    let h : Between (decimal 1 100) (decimal 1 100) (decimal 1 100) = record { from_low = tt; to_high = tt } in
-    sub_in h p tt
+    proportional_in : {e : Float} → Between (neg error) e error → Between (neg part) (DAMPER_GAIN ⊗ e) part
+    proportional_in b = mul_in_turned b (between t.gain) t.proportional
 
-usual_unlimited : {integrator e : Float} → Between (neg (decimal 8 1)) e (decimal 8 1) → Between (neg (decimal 16 1)) integrator (decimal 16 1) → Finite (DAMPER_GAIN ⊗ e ⊕ integrator)
-unfolding round neg add sub mul le lt eq
-usual_unlimited {integrator} {e} b i =
-    let p : Between (neg (decimal 4 1)) (DAMPER_GAIN ⊗ e) (decimal 4 1) = mul_in_turned b gain_in tt in
-    let u : Between (neg (decimal 20 1)) (DAMPER_GAIN ⊗ e ⊕ integrator) (decimal 20 1) = add_in p i tt in
-    finite_between tt tt u
+    total : {integrator e : Float} → Between (neg error) e error → Between (neg end) integrator end → Between (neg sum) (DAMPER_GAIN ⊗ e ⊕ integrator) sum
+    total b i = add_in (proportional_in b) i t.unlimited
 
-end_around : {end : Float} → T ((neg end ≤ᶠ zero) && (zero ≤ᶠ end)) → Between (neg end) zero end
-end_around {end} h = record { from_low = and_l (neg end ≤ᶠ zero) (zero ≤ᶠ end) h; to_high = and_r (neg end ≤ᶠ zero) (zero ≤ᶠ end) h }
+usual_tests : Tests (decimal 15 10) (decimal 7 1) (decimal 8 1) (decimal 4 1) (decimal 20 1) (decimal 16 1)
+unfolding round neg add sub mul div lt eq le
+usual_tests = assumption tt
 
 pub usual_size : Size (decimal 15 10) (decimal 8 1) (decimal 16 1)
-unfolding round neg le lt eq
-usual_size = record { error_in = usual_error; next_in = damper_next; reset_in = usual_reset; unlimited_finite = usual_unlimited; end_from_zero = end_around tt }
+usual_size = size usual_tests damper_tables
 
-any_error : {setpoint flow maximum : Float} → Between zero setpoint (decimal 1 1) → Between (neg HIGHEST_FLOW) flow HIGHEST_FLOW → Between (decimal 1 10) maximum (decimal 10 1)
-    → Between (neg (decimal 101 1)) (setpoint ⊖ flow ⊘ maximum) (decimal 101 1)
-unfolding round neg add sub div le lt eq
-any_error s f m = let q : Between (neg (decimal 100 1)) _ (decimal 100 1) = div_in f m tt in sub_in s q tt
-
-any_reset : {e : Float} → Between (neg (decimal 101 1)) e (decimal 101 1) → Between (neg (decimal 512 1)) (decimal 1 100 ⊖ DAMPER_GAIN ⊗ e) (decimal 512 1)
-unfolding round neg add sub mul le lt eq
-any_reset e =
-    let p : Between (neg (decimal 51 1)) _ (decimal 51 1) = mul_in_turned e gain_in tt in
-    let h : Between (decimal 1 100) (decimal 1 100) (decimal 1 100) = record { from_low = tt; to_high = tt } in
-    sub_in h p tt
-
-any_unlimited : {integrator e : Float} → Between (neg (decimal 101 1)) e (decimal 101 1) → Between (neg (decimal 512 1)) integrator (decimal 512 1) → Finite (DAMPER_GAIN ⊗ e ⊕ integrator)
-unfolding round neg add sub mul le lt eq
-any_unlimited {integrator} {e} b i =
-    let p : Between (neg (decimal 51 1)) (DAMPER_GAIN ⊗ e) (decimal 51 1) = mul_in_turned b gain_in tt in
-    let u : Between (neg (decimal 600 1)) (DAMPER_GAIN ⊗ e ⊕ integrator) (decimal 600 1) = add_in p i tt in
-    finite_between tt tt u
+any_tests : Tests (decimal 1 10) (decimal 100 1) (decimal 101 1) (decimal 51 1) (decimal 600 1) (decimal 512 1)
+unfolding round neg add sub mul div lt eq le
+any_tests = assumption tt
 
 pub any_size : Size (decimal 1 10) (decimal 101 1) (decimal 512 1)
-unfolding round neg le lt eq
-any_size = record { error_in = any_error; next_in = any_damper_next; reset_in = any_reset; unlimited_finite = any_unlimited; end_from_zero = end_around tt }
+any_size = size any_tests any_damper_tables
 
 -- ---- the active airflow: its minimum is at most its maximum
 
@@ -187,4 +180,4 @@ module _ (choices : Choices) (f : FlowsIn choices) (s : DamperState) (input : Da
 
   pub kept_damper : KeptDamper (Some t) end step.state
   unfolding damper next_integrator
-  kept_damper = record { integrator = if_in (input.supply_fan_status && not s.previous_fan) _ _ (z.reset_in error_range) (z.next_in error_range k.integrator (dt_in a s.previous_time k.previous_time)); previous_time = refl }
+  kept_damper = record { integrator = if_in (input.supply_fan_status && not s.previous_fan) _ _ (z.reset_in error_range) (z.next_in s.integrator error_of (step_seconds s.previous_time t) error_range k.integrator (dt_in a s.previous_time k.previous_time)); previous_time = refl }

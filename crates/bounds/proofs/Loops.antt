@@ -14,7 +14,8 @@ use Rattle.cooling_only_controller_conditioning.specs.declared.LoopPiState.{Loop
 use Rattle.cooling_only_controller_conditioning.specs.declared.ControlLoopsState.{ControlLoopsState}
 use Rattle.bounds.specs.Limits.{LONGEST_STEP, COLDEST, HOTTEST, LOOP_GAIN, next_integrator}
 use Rattle.bounds.specs.Kept.{KeptLoopPi, KeptControlLoops}
-use Rattle.bounds.proofs.Pi.{loop_next}
+use Rattle.bounds.proofs.PiRange.{between_ends}
+use Rattle.bounds.proofs.Pi.{loop_tables}
 use Rattle.bounds.proofs.Timing.{Accepted, kept_true_delay, lengths}
 
 -- the step of a PI that was last run at the last accepted tick
@@ -45,7 +46,7 @@ module _ {last : Option Float} {t : Float} (a : Accepted last t) (s : LoopPiStat
   pub kept_loop_pi : (trigger : Bool) → KeptLoopPi (Some t) (loop_pi s t error trigger).state × Between zero (loop_pi s t error trigger).output (decimal 1 1)
   unfolding loop_pi next_integrator
   kept_loop_pi trigger = (
-    record { integrator = if_in (trigger && not s.previous_trigger) _ _ reset_in (loop_next e k.integrator (dt_in a s.previous_time k.previous_time)); previous_time = refl },
+    record { integrator = if_in (trigger && not s.previous_trigger) _ _ reset_in (between_ends loop_tables s.integrator error (step_seconds s.previous_time t) e k.integrator (dt_in a s.previous_time k.previous_time)); previous_time = refl },
     clamp_unit (LOOP_GAIN ⊗ error ⊕ s.integrator) unlimited_finite,
   )
 
