@@ -111,8 +111,9 @@ module _ (choices : Choices) (f : FlowsIn choices) {occupied_minimum : Float} (o
 
 module _ (choices : Choices) (f : FlowsIn choices) (s : DamperState) (input : DamperInput)
     (minimum : Flow choices.design_cooling_maximum_flow input.active_minimum_flow) (maximum : Flow choices.design_cooling_maximum_flow input.active_cooling_maximum_flow)
-    (order : T (input.active_minimum_flow ≤ᶠ input.active_cooling_maximum_flow)) (signal : Between zero input.cooling_loop (decimal 1 1)) (flow : Between (neg HIGHEST_FLOW) input.discharge_airflow HIGHEST_FLOW)
-    {last : Option Float} {t : Float} (a : Accepted last t) {smallest error end : Float} (z : Size smallest error end) (large : Between smallest choices.design_cooling_maximum_flow (decimal 10 1)) (k : KeptDamper last end s) where
+    (order : T (input.active_minimum_flow ≤ᶠ input.active_cooling_maximum_flow)) (signal : Between zero input.cooling_loop (decimal 1 1))
+    (flow : Between (neg HIGHEST_FLOW) input.discharge_airflow HIGHEST_FLOW) {last : Option Float} {t : Float} (a : Accepted last t)
+    {smallest error end : Float} (z : Size smallest error end) (large : Between smallest choices.design_cooling_maximum_flow (decimal 10 1)) (k : KeptDamper last end s) where
   abbrev step : Step DamperState DamperOutput
   step = damper s t input choices
 
@@ -128,7 +129,8 @@ module _ (choices : Choices) (f : FlowsIn choices) (s : DamperState) (input : Da
       let warm = greater_hysteretic input.supply_air_temperature input.zone_temperature TEMPERATURE_HYSTERESIS s.supply_warm in
       let mapped = buildings_line zero input.active_minimum_flow (decimal 1 1) input.active_cooling_maximum_flow input.cooling_loop in
       let active : Flow M (if warm then input.active_minimum_flow else mapped) = chosen_flow choices f warm input.active_minimum_flow mapped minimum mapped_in in
-      let base : Flow M (if input.zone_state ==ᶻ 3 then if warm then input.active_minimum_flow else mapped else input.active_minimum_flow) = chosen_flow choices f (input.zone_state ==ᶻ 3) _ input.active_minimum_flow active minimum in
+      let base : Flow M (if input.zone_state ==ᶻ 3 then if warm then input.active_minimum_flow else mapped else input.active_minimum_flow) =
+      chosen_flow choices f (input.zone_state ==ᶻ 3) _ input.active_minimum_flow active minimum in
       let third = chosen_flow choices f (input.airflow_override_index ==ᶻ 3) choices.design_minimum_flow _ (at_minimum choices f) base in
       let second = chosen_flow choices f (input.airflow_override_index ==ᶻ 2) M _ (at_maximum choices f) third in
       chosen_flow choices f (input.airflow_override_index ==ᶻ 1) zero _ (no_flow choices f) second
@@ -168,11 +170,11 @@ module _ (choices : Choices) (f : FlowsIn choices) (s : DamperState) (input : Da
 
   command_zero : Between zero zero (decimal 1 1)
   unfolding round le lt eq
-  command_zero = record { from_low = tt; to_high = tt }
+  command_zero = between tt
 
   command_one : Between zero (decimal 1 1) (decimal 1 1)
   unfolding round le lt eq
-  command_one = record { from_low = tt; to_high = tt }
+  command_one = between tt
 
   pub damper_command_in : Between zero step.output.damper_command (decimal 1 1)
   unfolding damper
@@ -180,4 +182,6 @@ module _ (choices : Choices) (f : FlowsIn choices) (s : DamperState) (input : Da
 
   pub kept_damper : KeptDamper (Some t) end step.state
   unfolding damper next_integrator
-  kept_damper = record { integrator = if_in (input.supply_fan_status && not s.previous_fan) _ _ (z.reset_in error_range) (z.next_in s.integrator error_of (step_seconds s.previous_time t) error_range k.integrator (dt_in a s.previous_time k.previous_time)); previous_time = refl }
+  kept_damper =
+      let next = z.next_in s.integrator error_of (step_seconds s.previous_time t) error_range k.integrator (dt_in a s.previous_time k.previous_time) in
+      record { integrator = if_in (input.supply_fan_status && not s.previous_fan) _ _ (z.reset_in error_range) next; previous_time = refl }

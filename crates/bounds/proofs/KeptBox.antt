@@ -32,6 +32,8 @@ use Rattle.bounds.proofs.Loops.{kept_control_loops}
 use Rattle.bounds.proofs.Flows.{FlowsIn, Flow, maximum_from_zero, occupied_minimum_in, population_in, area_in, minimum_outdoor_in}
 use Rattle.bounds.proofs.Damper.{Size, active_in, active_maximum_in, active_order, airflow_setpoint_in, damper_command_in, kept_damper, unlimited_finite}
 use Rattle.bounds.proofs.Requests.{kept_system_requests, kept_alarms}
+use Rattle.f64_helpers.proofs.Intervals.{between}
+use Rattle.cooling_only_controller.specs.ControllerPieces.{setpoint_input, damper_input}
 
 -- ---- a fresh box
 
@@ -42,11 +44,11 @@ module _ (choices : Choices) (f : FlowsIn choices) {smallest error end : Float} 
   pub fresh_box_kept : KeptBox end (unticked choices)
   unfolding round neg le lt eq
   fresh_box_kept =
-      let hot : Between zero zero HOTTEST = record { from_low = tt; to_high = tt } in
-      let signal : Between zero zero (decimal 1 1) = record { from_low = tt; to_high = tt } in
-      let flow : Between (neg HIGHEST_FLOW) zero HIGHEST_FLOW = record { from_low = tt; to_high = tt } in
+      let hot : Between zero zero HOTTEST = between tt in
+      let signal : Between zero zero (decimal 1 1) = between tt in
+      let flow : Between (neg HIGHEST_FLOW) zero HIGHEST_FLOW = between tt in
       let setpoint : Between zero zero choices.design_cooling_maximum_flow = record { from_low = tt; to_high = (maximum_from_zero choices f).from_low } in
-      let loop : Between (neg (decimal 64 1)) zero (decimal 64 1) = record { from_low = tt; to_high = tt } in
+      let loop : Between (neg (decimal 64 1)) zero (decimal 64 1) = between tt in
       record {
         last_time = tt;
         time_suppression = record {
@@ -101,32 +103,14 @@ module _ (box : AirBox) (f : FlowsIn box.choices) {smallest error end : Float} (
 
   -- what the stages are handed
   abbrev to_setpoints : SetpointInput
-  to_setpoints = record {
-    window_status = i.window_status;
-    occupancy_status = i.occupancy_status;
-    operating_mode = i.operating_mode;
-    co2_setpoint = i.co2_setpoint;
-    co2_concentration = i.co2_concentration;
-    zone_temperature = i.zone_temperature;
-    discharge_air_temperature = i.discharge_air_temperature;
-  }
+  to_setpoints = setpoint_input i
 
   abbrev occupied_minimum : Float
   occupied_minimum = (setpoints s.setpoints to_setpoints box.choices).output.occupied_minimum_flow
 
   abbrev to_damper : DamperInput
-  to_damper = record {
-    active_minimum_flow = (active_airflow i.operating_mode occupied_minimum box.choices).minimum;
-    supply_air_temperature = i.supply_air_temperature;
-    zone_temperature = i.zone_temperature;
-    cooling_loop = loops.output.cooling;
-    active_cooling_maximum_flow = (active_airflow i.operating_mode occupied_minimum box.choices).cooling_maximum;
-    zone_state = (zone_states s.zone_states loops.output.heating loops.output.cooling).output;
-    airflow_override_index = i.airflow_override_index;
-    supply_fan_status = i.supply_fan_status;
-    discharge_airflow = i.discharge_airflow;
-    damper_override_index = i.damper_override_index;
-  }
+  to_damper =
+      damper_input i loops.output (active_airflow i.operating_mode occupied_minimum box.choices) (zone_states s.zone_states loops.output.heating loops.output.cooling).output
 
   readings : Readings i
   readings = readings_in box.last_time k all
@@ -157,7 +141,7 @@ module _ (box : AirBox) (f : FlowsIn box.choices) {smallest error end : Float} (
 
   -- the damper's PI before its limits
   pub damper_unlimited_finite :
-      Finite (DAMPER_GAIN ⊗ ((controller_step_of box k).output.airflow_setpoint ⊘ box.choices.design_cooling_maximum_flow ⊖ i.discharge_airflow ⊘ box.choices.design_cooling_maximum_flow) ⊕ s.dampers.integrator)
+      let M = box.choices.design_cooling_maximum_flow in Finite (DAMPER_GAIN ⊗ ((controller_step_of box k).output.airflow_setpoint ⊘ M ⊖ i.discharge_airflow ⊘ M) ⊕ s.dampers.integrator)
   unfolding controller_output
   damper_unlimited_finite = unlimited_finite box.choices f s.dampers to_damper minimum_in maximum_in order loops_kept.1 readings.discharge_airflow step_of z large kept.dampers
 

@@ -3,7 +3,7 @@ use Rattle.std.proofs.Common.{◌≡◌, refl, Bool, not, ◌&&◌, sym, Some, N
 use lib.Ieee.{Float, round, neg, add, sub, mul, lt, eq, le}
 use Rattle.f64_helpers.specs.F64.{◌⊕◌, ◌⊖◌, ◌⊗◌, decimal, zero}
 use Rattle.f64_helpers.specs.Ranges.{Between, Finite}
-use Rattle.f64_helpers.proofs.Intervals.{finite_between, sub_in, add_in, neg_in, mul_in, mul_in_turned, if_in}
+use Rattle.f64_helpers.proofs.Intervals.{finite_between, sub_in, add_in, neg_in, mul_in, mul_in_turned, if_in, between}
 use Rattle.cdl_recurrences.specs.CdlRecurrences.{less_hysteretic}
 use Rattle.cdl_recurrences.proofs.Ranges.{clamp_unit}
 use Rattle.cooling_only_controller_timing.specs.Timing.{step_seconds}
@@ -29,10 +29,11 @@ pub error_in : {x y : Float} → Between COLDEST x HOTTEST → Between COLDEST y
 unfolding round neg add sub le lt eq
 error_in p q = sub_in p q tt
 
-module _ {last : Option Float} {t : Float} (a : Accepted last t) (s : LoopPiState) (k : KeptLoopPi last s) (error : Float) (e : Between (neg (HOTTEST ⊖ COLDEST)) error (HOTTEST ⊖ COLDEST)) where
+module _ {last : Option Float} {t : Float} (a : Accepted last t) (s : LoopPiState) (k : KeptLoopPi last s) (error : Float)
+    (e : Between (neg (HOTTEST ⊖ COLDEST)) error (HOTTEST ⊖ COLDEST)) where
   proportional_in : Between (neg (decimal 31 1)) (LOOP_GAIN ⊗ error) (decimal 31 1)
   unfolding round neg add sub mul le lt eq
-  proportional_in = let g : Between zero LOOP_GAIN LOOP_GAIN = record { from_low = tt; to_high = tt } in mul_in_turned e g tt
+  proportional_in = let g : Between zero LOOP_GAIN LOOP_GAIN = between tt in mul_in_turned e g tt
 
   reset_in : Between (neg (decimal 64 1)) (neg (LOOP_GAIN ⊗ error)) (decimal 64 1)
   unfolding round neg add sub mul le lt eq
@@ -45,17 +46,18 @@ module _ {last : Option Float} {t : Float} (a : Accepted last t) (s : LoopPiStat
 
   pub kept_loop_pi : (trigger : Bool) → KeptLoopPi (Some t) (loop_pi s t error trigger).state × Between zero (loop_pi s t error trigger).output (decimal 1 1)
   unfolding loop_pi next_integrator
-  kept_loop_pi trigger = (
-    record { integrator = if_in (trigger && not s.previous_trigger) _ _ reset_in (between_ends loop_tables s.integrator error (step_seconds s.previous_time t) e k.integrator (dt_in a s.previous_time k.previous_time)); previous_time = refl },
-    clamp_unit (LOOP_GAIN ⊗ error ⊕ s.integrator) unlimited_finite,
-  )
+  kept_loop_pi trigger =
+      let next = between_ends loop_tables s.integrator error (step_seconds s.previous_time t) e k.integrator (dt_in a s.previous_time k.previous_time) in (
+        record { integrator = if_in (trigger && not s.previous_trigger) _ _ reset_in next; previous_time = refl },
+        clamp_unit (LOOP_GAIN ⊗ error ⊕ s.integrator) unlimited_finite,
+      )
 
 -- a signal from 0 to 1, let through or not
 gated_in : (signal : Float) (off : Bool) → Between zero signal (decimal 1 1) → Between zero (signal ⊗ (if off then zero else decimal 1 1)) (decimal 1 1)
 unfolding round mul le lt eq
 gated_in signal off s =
-    let none : Between zero zero (decimal 1 1) = record { from_low = tt; to_high = tt } in
-    let all : Between zero (decimal 1 1) (decimal 1 1) = record { from_low = tt; to_high = tt } in
+    let none : Between zero zero (decimal 1 1) = between tt in
+    let all : Between zero (decimal 1 1) (decimal 1 1) = between tt in
     mul_in s (if_in off zero (decimal 1 1) none all) tt
 
 module _ {last : Option Float} {t : Float} (a : Accepted last t) (s : ControlLoopsState) (k : KeptControlLoops last s) {setpoint zone heating : Float}
@@ -67,8 +69,7 @@ module _ {last : Option Float} {t : Float} (a : Accepted last t) (s : ControlLoo
   unfolding control_loops
   kept_control_loops =
       let cooling = kept_loop_pi a s.cooling_pi k.cooling_pi (zone ⊖ setpoint) (error_in z c) (less_hysteretic setpoint zone TEMPERATURE_HYSTERESIS s.cooling_enable) in
-      let heating = kept_loop_pi a s.heating_pi k.heating_pi (heating ⊖ zone) (error_in h z) (less_hysteretic zone heating TEMPERATURE_HYSTERESIS s.heating_enable) in
-      (
+      let heating = kept_loop_pi a s.heating_pi k.heating_pi (heating ⊖ zone) (error_in h z) (less_hysteretic zone heating TEMPERATURE_HYSTERESIS s.heating_enable) in (
         record {
           cooling_pi = cooling.0;
           heating_pi = heating.0;

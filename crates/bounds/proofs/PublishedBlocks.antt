@@ -201,7 +201,10 @@ module _ (max min : Float → Float → Float) (rust_max : RustMax max) (rust_mi
       above : T (lt (decimal 1 1) value) → max zeroᶠ (decimal 1 1) ≡ cond (lt value zeroᶠ) zeroᶠ (decimal 1 1)
       above k =
           larger max rust_max zeroᶠ (decimal 1 1) zero_number (one_no_zero zeroᶠ)
-          ∙ rw (is_true (lt zeroᶠ (decimal 1 1)) zero_below_one, is_false (lt value zeroᶠ) (not_T (lt value zeroᶠ) (λ l. lt_irrefl value (lt_trans value zeroᶠ value l (lt_trans zeroᶠ (decimal 1 1) value zero_below_one k))))) refl
+          ∙ rw (
+            is_true (lt zeroᶠ (decimal 1 1)) zero_below_one,
+            is_false (lt value zeroᶠ) (not_T (lt value zeroᶠ) (λ l. lt_irrefl value (lt_trans value zeroᶠ value l (lt_trans zeroᶠ (decimal 1 1) value zero_below_one k)))),
+          ) refl
 
       within : max zeroᶠ value ≡ cond (lt value zeroᶠ) zeroᶠ value
       within = by_zero (eq value zeroᶠ) refl
@@ -237,7 +240,8 @@ sum_within : (m : ℕ) (e : ℤ) (n : ℕ) (d : ℤ) (q w : ℕ) → q * 256 + 2
 unfolding add sum
 sum_within m e n d q w Q W low high small =
     rounded_within (m * up e * down d + n * up d * down e) (down e * down d) q 1 (q * 256 + 255) 256 (mul-pos (down_pos e) (down_pos d)) (zero-lt-suc 0) (zero-lt-suc 255)
-    (whole_held q (omega arith)) (fraction_held (q * 256 + 255) 8 Q (lit≤ tt)) (from_low (m * up e) (n * up d) (down d) (down e) q low) (to_high (m * up e) (n * up d) (down d) (down e) q w W high small)
+    (whole_held q (omega arith)) (fraction_held (q * 256 + 255) 8 Q (lit≤ tt))
+    (from_low (m * up e) (n * up d) (down d) (down e) q low) (to_high (m * up e) (n * up d) (down d) (down e) q w W high small)
   where
     from_low : (x y D E q : ℕ) → q * E ≤ x * 1 → q * (E * D) ≤ (x * D + y * E) * 1
     from_low x y D E q h =

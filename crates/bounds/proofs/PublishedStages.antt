@@ -215,7 +215,8 @@ module _ (max min : Float → Float → Float) (rust_max : RustMax max) (rust_mi
       refl
 
   -- ---- the zone state
-  zone_same : (s : ZoneStatesState) (heating cooling : Float) → Finite heating → Finite cooling → Finite (heating ⊖ cooling) → zone_states_over (published max min) s heating cooling ≡ zone_states s heating cooling
+  zone_same : (s : ZoneStatesState) (heating cooling : Float) → Finite heating → Finite cooling → Finite (heating ⊖ cooling)
+      → zone_states_over (published max min) s heating cooling ≡ zone_states s heating cooling
   unfolding zone_states_over zone_states
   zone_same s heating cooling h c d =
       rw (
@@ -264,7 +265,8 @@ module _ (max min : Float → Float → Float) (rust_max : RustMax max) (rust_mi
         sampler_same max min rust_max s.discharge_sampler t time kept.discharge_grid,
         sampler_same max min rust_max s.damper_sampler t time kept.damper_grid,
         hysteresis_same cooling.output (decimal 94 100) (decimal 95 100) s.cooling_high (sampled_finite s.cooling_sampler t input.cooling_loop (decimal 120 1) kept.cooling_held loop) ranges.high,
-        hysteresis_same airflow_setpoint.output (decimal 5 1000) (decimal 1 100) s.setpoint_on (sampled_finite s.setpoint_sampler t input.airflow_setpoint (decimal 120 1) kept.setpoint_held airflow) ranges.flow,
+        hysteresis_same airflow_setpoint.output (decimal 5 1000) (decimal 1 100) s.setpoint_on
+            (sampled_finite s.setpoint_sampler t input.airflow_setpoint (decimal 120 1) kept.setpoint_held airflow) ranges.flow,
         hysteresis_same command.output (decimal 94 100) (decimal 95 100) s.damper_high (sampled_finite s.damper_sampler t input.damper_position (decimal 120 1) kept.damper_held position) ranges.high,
         delay_same max min rust_max 60 tt s.damper_delay t choices.quiet kept.damper_timer,
       )

@@ -48,7 +48,9 @@ module _ {above below : Float} (x : Between COLDEST above HOTTEST) (y : Between 
 
   proportional_above : T (zero <ᶠ CONTROL_GAIN ⊗ (above ⊖ below))
   unfolding round mul le lt eq
-  proportional_above = lt_of_lt_of_le zero (CONTROL_GAIN ⊗ fin false 1 (negsuc 1063)) (CONTROL_GAIN ⊗ (above ⊖ below)) tt (times_larger CONTROL_GAIN (fin false 1 (negsuc 1063)) (above ⊖ below) tt tt error_finite tt error_above)
+  proportional_above =
+      lt_of_lt_of_le zero (CONTROL_GAIN ⊗ fin false 1 (negsuc 1063)) (CONTROL_GAIN ⊗ (above ⊖ below)) tt
+      (times_larger CONTROL_GAIN (fin false 1 (negsuc 1063)) (above ⊖ below) tt tt error_finite tt error_above)
 
   reset_sign : NotMinusZero (neg (CONTROL_GAIN ⊗ (above ⊖ below)))
   reset_sign = opposite_sign (CONTROL_GAIN ⊗ (above ⊖ below)) proportional_above
@@ -68,7 +70,8 @@ rises below above previous h = go previous (below <ᶠ above) (below <ᶠ above 
 
 -- ---- the loops
 
-module _ {above below : Float} (x : Between COLDEST above HOTTEST) (y : Between COLDEST below HOTTEST) (f : T (fits binary64 above)) (g : T (fits binary64 below)) (s : LoopPiState) (enable : Bool) (k : KeptLoopSign enable s) (t : Float) where
+module _ {above below : Float} (x : Between COLDEST above HOTTEST) (y : Between COLDEST below HOTTEST) (f : T (fits binary64 above)) (g : T (fits binary64 below))
+    (s : LoopPiState) (enable : Bool) (k : KeptLoopSign enable s) (t : Float) where
   abbrev trigger : Bool
   trigger = less_hysteretic below above TEMPERATURE_HYSTERESIS enable
 
@@ -102,7 +105,9 @@ pub damper_signs : (s : DamperState) (t : Float) (input : DamperInput) (choices 
 unfolding damper
 damper_signs s t input choices f n = (
   cond_both (input.supply_fan_status && not s.previous_fan) _ _ Fits (λ e. sub-fits binary64 (decimal 1 100) _) (λ e. add-fits binary64 s.integrator _),
-  cond_both (input.supply_fan_status && not s.previous_fan) _ _ NotMinusZero (λ e. difference_not_minus_zero (decimal 1 100) _ (round-fits binary64 false 1 100) (mul-fits binary64 _ _) (decimal_sign 1 100)) (λ e. sum_not_minus_zero s.integrator _ f (mul-fits binary64 _ _) (inl n)),
+  cond_both (input.supply_fan_status && not s.previous_fan) _ _ NotMinusZero
+      (λ e. difference_not_minus_zero (decimal 1 100) _ (round-fits binary64 false 1 100) (mul-fits binary64 _ _) (decimal_sign 1 100))
+      (λ e. sum_not_minus_zero s.integrator _ f (mul-fits binary64 _ _) (inl n)),
 )
 
 -- over an accepted tick
