@@ -10,7 +10,7 @@ use Rattle.f64_helpers.proofs.Intervals.{finite_between, add_in, sub_in, mul_in_
 use Rattle.f64_helpers.proofs.Monotone.{div_mono, self_quotient}
 use Rattle.box_choices.specs.declared.Choices.{Choices}
 use Rattle.cdl_recurrences.specs.CdlRecurrences.{buildings_line, clamp, greater_hysteretic}
-use Rattle.cdl_recurrences.proofs.Ranges.{clamp_unit}
+use Rattle.cdl_recurrences.proofs.Ranges.{clamp_unit, unit_zero, unit_one}
 use Rattle.cooling_only_controller_conditioning.specs.Conditioning.{active_airflow}
 use Rattle.cooling_only_controller_airflow.specs.Airflow.{damper, TEMPERATURE_HYSTERESIS}
 use Rattle.cooling_only_controller_airflow.specs.declared.DamperInput.{DamperInput}
@@ -168,17 +168,9 @@ module _ (choices : Choices) (f : FlowsIn choices) (s : DamperState) (input : Da
   pid_in : Between zero (clamp (DAMPER_GAIN ⊗ error_of ⊕ s.integrator) zero (decimal 1 1)) (decimal 1 1)
   pid_in = clamp_unit (DAMPER_GAIN ⊗ error_of ⊕ s.integrator) unlimited_finite
 
-  command_zero : Between zero zero (decimal 1 1)
-  unfolding round le lt eq
-  command_zero = between tt
-
-  command_one : Between zero (decimal 1 1) (decimal 1 1)
-  unfolding round le lt eq
-  command_one = between tt
-
   pub damper_command_in : Between zero step.output.damper_command (decimal 1 1)
   unfolding damper
-  damper_command_in = if_in _ zero _ command_zero (if_in _ (decimal 1 1) _ command_one pid_in)
+  damper_command_in = if_in _ zero _ unit_zero (if_in _ (decimal 1 1) _ unit_one pid_in)
 
   pub kept_damper : KeptDamper (Some t) end step.state
   unfolding damper next_integrator

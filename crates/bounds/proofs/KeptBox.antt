@@ -34,6 +34,7 @@ use Rattle.bounds.proofs.Damper.{Size, active_in, active_maximum_in, active_orde
 use Rattle.bounds.proofs.Requests.{kept_system_requests, kept_alarms}
 use Rattle.f64_helpers.proofs.Intervals.{between}
 use Rattle.cooling_only_controller.specs.ControllerPieces.{setpoint_input, damper_input}
+use Rattle.cdl_recurrences.proofs.Ranges.{unit_zero}
 
 -- ---- a fresh box
 
@@ -45,7 +46,6 @@ module _ (choices : Choices) (f : FlowsIn choices) {smallest error end : Float} 
   unfolding round neg le lt eq
   fresh_box_kept =
       let hot : Between zero zero HOTTEST = between tt in
-      let signal : Between zero zero (decimal 1 1) = between tt in
       let flow : Between (neg HIGHEST_FLOW) zero HIGHEST_FLOW = between tt in
       let setpoint : Between zero zero choices.design_cooling_maximum_flow = record { from_low = tt; to_high = (maximum_from_zero choices f).from_low } in
       let loop : Between (neg (decimal 64 1)) zero (decimal 64 1) = between tt in
@@ -70,10 +70,10 @@ module _ (choices : Choices) (f : FlowsIn choices) {smallest error end : Float} 
           hot_three_delay = fresh_kept lengths.2;
           hot_two_delay = fresh_kept lengths.2;
           damper_delay = fresh_kept lengths.1;
-          cooling_sampler = record { grid = grid_fresh; held = signal };
+          cooling_sampler = record { grid = grid_fresh; held = unit_zero };
           setpoint_sampler = record { grid = grid_fresh; held = setpoint };
           discharge_sampler = record { grid = grid_fresh; held = flow };
-          damper_sampler = record { grid = grid_fresh; held = signal };
+          damper_sampler = record { grid = grid_fresh; held = unit_zero };
         };
         alarms = record {
           fan_armed = fresh_kept lengths.5;

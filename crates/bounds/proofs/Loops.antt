@@ -5,7 +5,7 @@ use Rattle.f64_helpers.specs.F64.{◌⊕◌, ◌⊖◌, ◌⊗◌, decimal, zero
 use Rattle.f64_helpers.specs.Ranges.{Between, Finite}
 use Rattle.f64_helpers.proofs.Intervals.{finite_between, sub_in, add_in, neg_in, mul_in, mul_in_turned, if_in, between}
 use Rattle.cdl_recurrences.specs.CdlRecurrences.{less_hysteretic}
-use Rattle.cdl_recurrences.proofs.Ranges.{clamp_unit}
+use Rattle.cdl_recurrences.proofs.Ranges.{clamp_unit, unit_zero, unit_one}
 use Rattle.cooling_only_controller_timing.specs.Timing.{step_seconds}
 use Rattle.cooling_only_controller_conditioning.specs.Conditioning.{loop_pi, control_loops, TEMPERATURE_HYSTERESIS}
 use Rattle.cooling_only_controller_timing.specs.declared.Step.{Step}
@@ -21,7 +21,7 @@ use Rattle.bounds.proofs.Timing.{Accepted, kept_true_delay, lengths}
 -- the step of a PI that was last run at the last accepted tick
 pub dt_in : {last : Option Float} {t : Float} → Accepted last t → (previous : Option Float) → previous ≡ last → Between zero (step_seconds previous t) LONGEST_STEP
 unfolding round le lt eq
-dt_in a None e = record { from_low = tt; to_high = tt }
+dt_in a None e = between tt
 dt_in a (Some p) e = a.step p (sym e)
 
 -- an error, the difference of two temperatures
@@ -55,10 +55,7 @@ module _ {last : Option Float} {t : Float} (a : Accepted last t) (s : LoopPiStat
 -- a signal from 0 to 1, let through or not
 gated_in : (signal : Float) (off : Bool) → Between zero signal (decimal 1 1) → Between zero (signal ⊗ (if off then zero else decimal 1 1)) (decimal 1 1)
 unfolding round mul le lt eq
-gated_in signal off s =
-    let none : Between zero zero (decimal 1 1) = between tt in
-    let all : Between zero (decimal 1 1) (decimal 1 1) = between tt in
-    mul_in s (if_in off zero (decimal 1 1) none all) tt
+gated_in signal off s = mul_in s (if_in off zero (decimal 1 1) unit_zero unit_one) tt
 
 module _ {last : Option Float} {t : Float} (a : Accepted last t) (s : ControlLoopsState) (k : KeptControlLoops last s) {setpoint zone heating : Float}
     (c : Between COLDEST setpoint HOTTEST) (z : Between COLDEST zone HOTTEST) (h : Between COLDEST heating HOTTEST) where

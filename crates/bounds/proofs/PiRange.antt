@@ -1,4 +1,5 @@
--- Where the next integrator lies, by where the error, the integrator and the step lie: one law over the gain, the integral time and the ranges. Assumes nothing.
+-- Where the next integrator lies, by where the error, the integrator and the step lie: one law over the gain, the integral time and the ranges. And that it keeps to its range,
+-- by tables of the pieces of that range. Assumes nothing.
 use Rattle.std.proofs.Common.{◌&&◌, T, inl, inr, List, [], ◌∷◌}
 use lib.Ieee.{Float, neg}
 use Rattle.f64_helpers.specs.F64.{◌⊕◌, ◌⊖◌, ◌⊗◌, ◌⊘◌, ◌<ᶠ◌, ◌≤ᶠ◌, decimal, zero}

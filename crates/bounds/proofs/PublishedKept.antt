@@ -20,8 +20,8 @@ use Rattle.bounds.proofs.Damper.{Size}
 use Rattle.bounds.proofs.Loops.{error_in, unlimited_finite}
 use Rattle.bounds.proofs.KeptBox.{loops_kept, outputs_in, damper_unlimited_finite}
 use Rattle.bounds.proofs.PublishedBlocks.{Started}
-use Rattle.bounds.proofs.PublishedStages as Stages
-use Rattle.bounds.proofs.PublishedStages.{MemoriesKept, Signals, Handed}
+use Rattle.bounds.proofs.PublishedStages.{Ventilation, MemoriesKept, Signals, Handed}
+use Rattle.cooling_only_controller.specs.ControllerPieces.{setpoint_input}
 
 timer_sign : {last : Option Float} {delay : Float} {s : TrueDelayState} → KeptTrueDelay last delay s → NotMinusZero s.timer
 timer_sign {last} {delay} {s} k = clear_not_minus_zero s.timer k.sign_clear
@@ -40,11 +40,12 @@ module _ (box : AirBox) (f : FlowsIn box.choices) {smallest error end : Float} (
   maximum_sign : NotMinusZero M
   maximum_sign = let a = above_zero M (maximum_finite box.choices f) (maximum_above_zero box.choices f) in subst NotMinusZero (sym a.is) tt
 
-  readings_handed : Stages.Readings k.input M
+  ventilation : Ventilation (setpoint_input k.input) M
   unfolding round neg
-  readings_handed = record {
+  ventilation = record {
     co2_concentration = finite_between tt tt inputs.co2_concentration;
     co2_band = le_of_lt _ _ (band k.input.co2_setpoint inputs.co2_setpoint);
+    co2_loop = finite_between tt tt (co2_loop_in k.input.co2_setpoint k.input.co2_concentration inputs.co2_setpoint inputs.co2_concentration);
     cooling_maximum = record { held = f.maximum_held; not_minus_zero = maximum_sign };
   }
 
@@ -98,7 +99,6 @@ module _ (box : AirBox) (f : FlowsIn box.choices) {smallest error end : Float} (
       let heating_error = error_in inputs.heating_setpoint inputs.zone_temperature in
       let difference : Between (neg (decimal 1 1)) _ (decimal 1 1) = sub_in loops.2 loops.1 tt in
       record {
-        co2_loop = finite_between tt tt (co2_loop_in k.input.co2_setpoint k.input.co2_concentration inputs.co2_setpoint inputs.co2_concentration);
         loops = record {
           cooling_error = finite_between tt tt cooling_error;
           cooling_unlimited = unlimited_finite step_of box.state.control_loops.cooling_pi kept.control_loops.cooling_pi _ cooling_error;
@@ -113,4 +113,4 @@ module _ (box : AirBox) (f : FlowsIn box.choices) {smallest error end : Float} (
       }
 
   pub handed : Handed box k
-  handed = record { time = step_of.time; readings = readings_handed; memories = memories; signals = signals }
+  handed = record { time = step_of.time; ventilation = ventilation; memories = memories; signals = signals }

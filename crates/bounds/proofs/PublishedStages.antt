@@ -1,5 +1,5 @@
 -- Stage by stage, and then whole: the controller over the published helpers gives what today's gives, at what it is handed. Assumes nothing.
--- `Handed` lists that: plain facts of the readings, of the memories and of today's signals at this tick.
+-- `Handed` lists that: plain facts of what the ventilation setpoints read, of the memories and of today's signals at this tick.
 use Rattle.std.proofs.Common.{◌≡◌, ℕ, Bool, true, false, cond, not, ◌&&◌, ◌||◌, T, ℤ, pos, refl}
 use lib.Ieee.{Float, binary64, round, neg, lt, eq, le, fits}
 use lib.Ieee.Fits.{round-fits}
@@ -82,16 +82,17 @@ pub record MemoriesKept (s : ControllerState) (t : Float) : Type 0 where
   pub requests : RequestsKept s.system_requests t
   pub alarms : AlarmsKept s.alarms
 
--- the readings, beside the box's cooling maximum
-pub record Readings (input : ControllerInput) (maximum : Float) : Type 0 where
-  pub co2_concentration : Finite input.co2_concentration
-  pub co2_band : T (input.co2_setpoint ⊖ decimal 200 1 ≤ᶠ input.co2_setpoint)
-  pub cooling_maximum : Held maximum
-
--- today's signals at this tick: of the loops and of the damper also the PI before its limits
+-- what the ventilation setpoints are handed
 abbrev pub co2_loop_at : SetpointInput → Float
 co2_loop_at input = buildings_line (input.co2_setpoint ⊖ decimal 200 1) zero input.co2_setpoint (decimal 1 1) input.co2_concentration
 
+pub record Ventilation (input : SetpointInput) (maximum : Float) : Type 0 where
+  pub co2_concentration : Finite input.co2_concentration
+  pub co2_band : T (input.co2_setpoint ⊖ decimal 200 1 ≤ᶠ input.co2_setpoint)
+  pub co2_loop : Finite (co2_loop_at input)
+  pub cooling_maximum : Held maximum
+
+-- today's signals at this tick: of the loops and of the damper also the PI before its limits
 abbrev pub loop_unlimited : LoopPiState → Float → Float
 loop_unlimited s error = decimal 1 10 ⊗ error ⊕ s.integrator
 
@@ -105,10 +106,9 @@ pub record LoopSignals (s : ControlLoopsState) (t cooling_setpoint zone_temperat
   pub cooling : Finite (control_loops s t cooling_setpoint zone_temperature heating_setpoint).output.cooling
   pub heating : Finite (control_loops s t cooling_setpoint zone_temperature heating_setpoint).output.heating
   pub difference :
-      Finite ((control_loops s t cooling_setpoint zone_temperature heating_setpoint).output.heating ⊖ (control_loops s t cooling_setpoint zone_temperature heating_setpoint).output.cooling)
+      let loops = control_loops s t cooling_setpoint zone_temperature heating_setpoint in Finite (loops.output.heating ⊖ loops.output.cooling)
 
 pub record Signals (s : ControllerState) (t : Float) (input : ControllerInput) (choices : Choices) : Type 0 where
-  pub co2_loop : Finite (co2_loop_at (setpoint_input input))
   pub loops : LoopSignals s.control_loops t input.cooling_setpoint input.zone_temperature input.heating_setpoint
   pub damper : Finite (damper_unlimited s.dampers (controller_output s t input choices).output.airflow_setpoint input.discharge_airflow choices.design_cooling_maximum_flow)
   pub airflow_setpoint : Finite (controller_output s t input choices).output.airflow_setpoint
@@ -116,7 +116,7 @@ pub record Signals (s : ControllerState) (t : Float) (input : ControllerInput) (
 
 pub record Handed (box : AirBox) (k : Tick) : Type 0 where
   pub time : IsTime k.t
-  pub readings : Readings k.input box.choices.design_cooling_maximum_flow
+  pub ventilation : Ventilation (setpoint_input k.input) box.choices.design_cooling_maximum_flow
   pub memories : MemoriesKept box.state k.t
   pub signals : Signals box.state k.t k.input box.choices
 
@@ -195,21 +195,19 @@ module _ (max min : Float → Float → Float) (rust_max : RustMax max) (rust_mi
       refl
 
   -- ---- the ventilation setpoints
-  setpoints_same : (s : SetpointsState) (input : SetpointInput) (choices : Choices)
-      → Finite input.co2_concentration → T (input.co2_setpoint ⊖ decimal 200 1 ≤ᶠ input.co2_setpoint)
-      → Finite (co2_loop_at input) → Held choices.design_cooling_maximum_flow
+  setpoints_same : (s : SetpointsState) (input : SetpointInput) (choices : Choices) → Ventilation input choices.design_cooling_maximum_flow
       → setpoints_over (published max min) s input choices ≡ setpoints s input choices
   unfolding setpoints_over setpoints
-  setpoints_same s input choices co2 band loop maximum =
+  setpoints_same s input choices v =
       let low = input.co2_setpoint ⊖ decimal 200 1 in
       let corrected = cond (input.operating_mode ==ᶻ 1) (co2_loop_at input) zero in
-      let corrected_finite : Finite corrected = cond_both (input.operating_mode ==ᶻ 1) (co2_loop_at input) zero Finite (λ e. loop) (λ e. tt) in
+      let corrected_finite : Finite corrected = cond_both (input.operating_mode ==ᶻ 1) (co2_loop_at input) zero Finite (λ e. v.co2_loop) (λ e. tt) in
       let one = decimal 1 1 in
       let most = choices.design_cooling_maximum_flow in
       let least = choices.design_minimum_flow in
       rw (
-        line_same max min rust_max rust_min low zero input.co2_setpoint one input.co2_concentration co2 band (held_decimal 1 1),
-        line_same max min rust_max rust_min zero least one most corrected corrected_finite ranges.unit maximum,
+        line_same max min rust_max rust_min low zero input.co2_setpoint one input.co2_concentration v.co2_concentration v.co2_band (held_decimal 1 1),
+        line_same max min rust_max rust_min zero least one most corrected corrected_finite ranges.unit v.cooling_maximum,
         line_same max min rust_max rust_min zero zero one (decimal 5 1000) corrected corrected_finite ranges.unit (held_decimal 5 1000),
       )
       refl
@@ -290,10 +288,10 @@ module _ (max min : Float → Float → Float) (rust_max : RustMax max) (rust_mi
 
   -- ---- the controller
   controller_same : (s : ControllerState) (t : Float) (input : ControllerInput) (choices : Choices)
-      → IsTime t → Readings input choices.design_cooling_maximum_flow → MemoriesKept s t → Signals s t input choices
+      → IsTime t → Ventilation (setpoint_input input) choices.design_cooling_maximum_flow → MemoriesKept s t → Signals s t input choices
       → controller_output_over (published max min) s t input choices ≡ controller_output s t input choices
   unfolding controller_output_over controller_output
-  controller_same s t input choices time readings kept signals =
+  controller_same s t input choices time handed kept signals =
       let suppression = time_suppression s.time_suppression t input.cooling_setpoint input.zone_temperature in
       let loops = control_loops s.control_loops t input.cooling_setpoint input.zone_temperature input.heating_setpoint in
       let ventilation = setpoints s.setpoints (setpoint_input input) choices in
@@ -301,12 +299,12 @@ module _ (max min : Float → Float → Float) (rust_max : RustMax max) (rust_mi
       let zone = zone_states s.zone_states loops.output.heating loops.output.cooling in
       let air = damper_input input loops.output active zone.output in
       let step = damper s.dampers t air choices in
-      let most = active_maximum input.operating_mode ventilation.output.occupied_minimum_flow choices readings.cooling_maximum in
+      let most = active_maximum input.operating_mode ventilation.output.occupied_minimum_flow choices handed.cooling_maximum in
       let signal = signals.loops in
       rw (
         suppression_same s.time_suppression t input.cooling_setpoint input.zone_temperature time kept.suppression,
         loops_same s.control_loops t input.cooling_setpoint input.zone_temperature input.heating_setpoint kept.loops signal,
-        setpoints_same s.setpoints (setpoint_input input) choices readings.co2_concentration readings.co2_band signals.co2_loop readings.cooling_maximum,
+        setpoints_same s.setpoints (setpoint_input input) choices handed,
         zone_same s.zone_states loops.output.heating loops.output.cooling signal.heating signal.cooling signal.difference,
         damper_same s.dampers t air choices kept.damper_integrator signal.cooling most signals.damper,
         requests_same s.system_requests t (request_input input suppression.output loops.output step.output) choices time kept.requests
@@ -319,4 +317,4 @@ module _ (max min : Float → Float → Float) (rust_max : RustMax max) (rust_mi
 pub published_agrees : (max min : Float → Float → Float) → RustMax max → RustMin min → (box : AirBox) (k : Tick) → Handed box k
     → controller_output_over (published max min) box.state k.t k.input box.choices ≡ controller_output box.state k.t k.input box.choices
 published_agrees max min rust_max rust_min box k handed =
-    controller_same max min rust_max rust_min box.state k.t k.input box.choices handed.time handed.readings handed.memories handed.signals
+    controller_same max min rust_max rust_min box.state k.t k.input box.choices handed.time handed.ventilation handed.memories handed.signals

@@ -50,6 +50,7 @@ plain_zero x f m z = zero_of_eq x f z ∙ ap (λ (s : Bool). fin s 0 (pos 0)) (g
     go false b m z = refl
 
 -- ---- the sign of a zero that is added
+-- ±a / c and ±0 / c
 add_nothing : (s t : Bool) (a b c : ℕ) → b ≡ 0 → (T s → 0 < a) → sum binary64 s a t b c ≡ round binary64 s a c
 unfolding sum
 add_nothing s t a b c z h = rw z (go s t h)
@@ -79,8 +80,9 @@ sign_hidden (fin r m e) s t n =
     add_nothing r s a b c (zero-mul (down e)) (size_above_zero r m e n) ∙ sym (add_nothing r t a b c (zero-mul (down e)) (size_above_zero r m e n))
 
 -- ---- a product with equal numbers is the same, or is a zero with either sign
-abbrev pub Signs : Float → Float → Type 0
-Signs x y = (s : Bool) × (t : Bool) × (x ≡ fin s 0 (pos 0)) × (y ≡ fin t 0 (pos 0))
+-- both are zeros
+abbrev pub Zeros : Float → Float → Type 0
+Zeros x y = (s : Bool) × (t : Bool) × (x ≡ fin s 0 (pos 0)) × (y ≡ fin t 0 (pos 0))
 
 -- what `eq` says of two finite numbers
 level_means : (s t : Bool) (a b : ℕ) → T (level s a t b) → (a ≡ b) × ((s ≡ t) ⊎ (a ≡ 0))
@@ -99,6 +101,7 @@ some_size m u d U D h = omega (arith, first_zero (suc m) u d U D h)
 nothing_times : (u d : ℕ) → 0 * u * d ≡ 0
 nothing_times u d = ap (λ (z : ℕ). z * d) (zero-mul u) ∙ zero-mul d
 
+-- an infinity times ±m * up e / down e and times the equal ±n * up d / down d
 infinite_product : (r s t : Bool) (m n : ℕ) (e d : ℤ) → T (level s (m * up e * down d) t (n * up d * down e))
     → cond (eqb m 0) nan (inf (unlike r s)) ≡ cond (eqb n 0) nan (inf (unlike r t))
 infinite_product r s t zero zero e d h = refl
@@ -113,7 +116,7 @@ infinite_product r s t (suc m) (suc n) e d h =
 
 -- ±k / c times ±a / p and times ±b / q, where a / p is b / q
 finite_product : (r s t : Bool) (k c a p b q : ℕ) → 0 < c → 0 < p → 0 < q → a * q ≡ b * p → (s ≡ t) ⊎ (a * q ≡ 0)
-    → (round binary64 (unlike r s) (k * a) (c * p) ≡ round binary64 (unlike r t) (k * b) (c * q)) ⊎ Signs (round binary64 (unlike r s) (k * a) (c * p)) (round binary64 (unlike r t) (k * b) (c * q))
+    → (round binary64 (unlike r s) (k * a) (c * p) ≡ round binary64 (unlike r t) (k * b) (c * q)) ⊎ Zeros (round binary64 (unlike r s) (k * a) (c * p)) (round binary64 (unlike r t) (k * b) (c * q))
 finite_product r s t k c a p b q C P Q same (inl e) =
     inl (ap (λ (s : Bool). round binary64 (unlike r s) (k * a) (c * p)) e
     ∙ round_same binary64 (unlike r t) (k * a) (c * p) (k * b) (c * q) (mul-pos C P) (mul-pos C Q) (mul-mul-mul_comm k a c q ∙ ap (λ (z : ℕ). k * c * z) same ∙ mul-mul-mul_comm k c b p))
@@ -127,7 +130,7 @@ finite_product r s t k c a p b q C P Q same (inr z) =
       ap (λ (n : ℕ). round binary64 (unlike r t) n (c * q)) (ap (λ (n : ℕ). k * n) b_zero ∙ mul-zero k) ∙ round_zero (unlike r t) (c * q) (mul-pos C Q),
     )
 
-pub product_equal : (g x y : Float) → T (eq x y) → (g ⊗ x ≡ g ⊗ y) ⊎ Signs (g ⊗ x) (g ⊗ y)
+pub product_equal : (g x y : Float) → T (eq x y) → (g ⊗ x ≡ g ⊗ y) ⊎ Zeros (g ⊗ x) (g ⊗ y)
 unfolding eq mul
 product_equal g nan y h = absurd h
 product_equal g (inf s) nan h = absurd h

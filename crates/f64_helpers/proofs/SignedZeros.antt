@@ -18,6 +18,7 @@ use Rattle.f64_helpers.proofs.Sums.{le_turned}
 use Rattle.f64_helpers.proofs.Monotone.{no_part}
 use Rattle.f64_helpers.proofs.ExactDifferences.{one, one_pos, at_left, at_right}
 
+-- ---- rounding keeps the sign
 odd_sign : (d : ℕ) (s : Bool) (q k l : ℕ) → negative (odd d s q k l) ≡ s
 unfolding odd
 odd_sign d s zero k l = refl
@@ -62,10 +63,10 @@ opposite_sign p h =
 pub decimal_sign : (n d : ℕ) → NotMinusZero (decimal n d)
 decimal_sign n d = clear_not_minus_zero (decimal n d) (round_sign binary64 false n d)
 
--- what is not -0.0 but has its sign bit set has a size
 level_zero : (a b : ℕ) → a ≡ 0 → b ≡ 0 → T (level true a false b)
 level_zero a b p q = rw (p, q) tt
 
+-- what has its sign bit set and is not -0.0 has a size
 pub size_above_zero : (s : Bool) (m : ℕ) (e : ℤ) → NotMinusZero (fin s m e) → T s → 0 < m * up e * 1
 unfolding eq
 size_above_zero false m e n t = absurd t
@@ -76,10 +77,10 @@ size_above_zero true m e n t = go (eq-zero-or-pos (m * up e * 1))
     go (inr p) = p
 
 -- ---- a sum of what has its sign bit clear, and of what is not below 0
-signed_sum : (t : Bool) (a b c : ℕ) → (T t → b ≡ 0) → negative (sum binary64 false a t b c) ≡ false
+clear_sum : (t : Bool) (a b c : ℕ) → (T t → b ≡ 0) → negative (sum binary64 false a t b c) ≡ false
 unfolding sum
-signed_sum false a b c z = round_sign binary64 false (a + b) c
-signed_sum true a b c z = go (ltb a b) (ltb→lt a b)
+clear_sum false a b c z = round_sign binary64 false (a + b) c
+clear_sum true a b c z = go (ltb a b) (ltb→lt a b)
   where
     none : b ≡ 0 → a < b → ⊥
     none e l = omega arith
@@ -96,7 +97,7 @@ sum_clear (fin s m e) nan h f g k = absurd g
 sum_clear (fin s m e) (inf t) h f g k = absurd g
 sum_clear (fin s m e) (fin t n d) h f g k =
     subst (λ (s : Bool). negative (sum binary64 s (m * up e * down d) t (n * up d * down e) (down e * down d)) ≡ false) (sym h)
-    (signed_sum t (m * up e * down d) (n * up d * down e) (down e * down d) (λ u. no_size t u k))
+    (clear_sum t (m * up e * down d) (n * up d * down e) (down e * down d) (λ u. no_size t u k))
   where
     no_size : (t : Bool) → T t → T (zeroᶠ ≤ᶠ fin t n d) → n * up d * down e ≡ 0
     no_size true u k = omega (arith, no_part n d k, ap (λ (z : ℕ). z * down e) (no_part n d k))
@@ -107,6 +108,7 @@ smallest_above : T (lt zeroᶠ (round binary64 false 1 one))
 unfolding one round lt
 smallest_above = tt
 
+-- signs that are alike
 pub same_sign : (s t : Bool) → T (beq s t) → s ≡ t
 same_sign true true h = refl
 same_sign true false h = absurd h
@@ -129,9 +131,9 @@ at_least_one k a b c i j e p q K =
     omega (arith, s, p, q, mul-le-mul_right c o, suc-mul i c)
 
 -- ±a / c and ±b / c, of i and of j units
-units_sign_of_sum : (s t : Bool) (a b c i j : ℕ) → 0 < c → a * one ≡ i * c → b * one ≡ j * c → (T s → T t → 0 < a + b) → NotMinusZero (sum binary64 s a t b c)
+signed_sum_sign : (s t : Bool) (a b c i j : ℕ) → 0 < c → a * one ≡ i * c → b * one ≡ j * c → (T s → T t → 0 < a + b) → NotMinusZero (sum binary64 s a t b c)
 unfolding sum
-units_sign_of_sum s t a b c i j C p q h = go (beq s t) (ltb a b) (ltb b a) (λ e u. subst T (same_sign s t e) u) (ltb→lt a b) (ltb→lt b a)
+signed_sum_sign s t a b c i j C p q h = go (beq s t) (ltb a b) (ltb b a) (λ e u. subst T (same_sign s t e) u) (ltb→lt a b) (ltb→lt b a)
   where
     total : (a + b) * one ≡ (i + j) * c
     total = add-mul a b one ∙ ap₂ ◌+◌ p q ∙ sym (add-mul i j c)
@@ -146,6 +148,7 @@ units_sign_of_sum s t a b c i j C p q h = go (beq s t) (ltb a b) (ltb b a) (λ e
         fraction_sign (s && more) (a - b) c C
         (λ u. at_least_one (a - b) b a c j i (omega (arith, g (and_r s more u))) q p (omega (arith, g (and_r s more u))))
 
+-- it is enough that the one is not -0.0
 pub sum_not_minus_zero : (x y : Float) → T (fits binary64 x) → T (fits binary64 y) → NotMinusZero x ⊎ NotMinusZero y → NotMinusZero (x ⊕ y)
 unfolding add one
 sum_not_minus_zero nan y f g n = tt
@@ -163,16 +166,12 @@ sum_not_minus_zero (fin s m e) (fin t k d) f g n =
     let q = in_places binary64 t k d g in
     let a = m * up e in
     let b = k * up d in
-    units_sign_of_sum s t (a * down d) (b * down e) (down e * down d) (p.digits * 2 ^ p.places) (q.digits * 2 ^ q.places) (mul-pos (down_pos e) (down_pos d))
+    signed_sum_sign s t (a * down d) (b * down e) (down e * down d) (p.digits * 2 ^ p.places) (q.digits * 2 ^ q.places) (mul-pos (down_pos e) (down_pos d))
     (at_left a (down e) (down d) (p.digits * 2 ^ p.places) p.in_units) (at_right b (down e) (down d) (q.digits * 2 ^ q.places) q.in_units)
-    (λ u v. ⊎_elim (λ x. first_part a (b * down e) (down d) (down_pos d) (size_above_zero s m e x u))
-    (λ y. second_part (a * down d) b (down e) (down_pos e) (size_above_zero t k d y v)) n)
+    (λ u v. ⊎_elim (λ x. omega (arith, part a (down d) (down_pos d) (size_above_zero s m e x u))) (λ y. omega (arith, part b (down e) (down_pos e) (size_above_zero t k d y v))) n)
   where
-    first_part : (x y d : ℕ) → 0 < d → 0 < x * 1 → 0 < x * d + y
-    first_part x y d D h = omega (arith, mul-pos (subst (λ (z : ℕ). 0 < z) (mul-one x) h) D)
-
-    second_part : (x y d : ℕ) → 0 < d → 0 < y * 1 → 0 < x + y * d
-    second_part x y d D h = omega (arith, mul-pos (subst (λ (z : ℕ). 0 < z) (mul-one y) h) D)
+    part : (x d : ℕ) → 0 < d → 0 < x * 1 → 0 < x * d
+    part x d D h = mul-pos (subst (λ (z : ℕ). 0 < z) (mul-one x) h) D
 
 pub difference_not_minus_zero : (x y : Float) → T (fits binary64 x) → T (fits binary64 y) → NotMinusZero x → NotMinusZero (x ⊖ y)
 unfolding sub
