@@ -1,6 +1,6 @@
 -- Differences of f64 that are exact. An f64 not below 0 is a whole number of the smallest value, 2 ^ -1074: these are its units.
--- That number has at most 53 binary digits, and then zeros. The difference of two such is exact where it is at most the one taken away.
--- And for y from 0 to x, x less the rounded x - y is exact. Assumes nothing.
+-- That number has at most 53 binary digits, and then zeros. The difference of two such is held where it is at most the one taken away.
+-- And for y from 0 to x, what x less the rounded x - y leaves is held. Assumes nothing.
 use Rattle.std.proofs.Common.{◌≡◌, ℕ, zero, suc, ◌+◌, ◌-◌, ◌*◌, ◌^◌, ◌<◌, ◌≤◌, Bool, true, false, not, ◌||◌, T, leb, ◌⊎◌, ◌↔◌, ℤ, pos, sym, refl, ap, ◌∙◌, subst, inl, inr, le_of_lt, mul-le-mul_right, mul_assoc, mul_comm, mul_right_comm, add-mul, mul-pos, mul-one, zero-mul, arith, pow_pos, pow-add, le_of_mul-le-mul_right, leb→le, pow-suc}
 use native.Mathlib.Nat.{sub-add_cancel, mul-sub}
 use lib.Ieee.{Float, nan, inf, fin, binary64, emax, low, up, down, round, neg, sum, add, sub, mul, div, below, level, lt, eq, le, fits}
@@ -354,14 +354,3 @@ difference x y n k u h v g l = go (leb (n - k) k) (leb→le (n - k) k) (nleb→l
       | inl s ↦ exact_difference (sub binary64 x y) n k o (few_digits (n - k) (omega (arith, s)) (omega (arith, h.under))) g l
       | inr s ↦ near_difference (sub binary64 x y) n (n - k) (sub-fits binary64 x y) o h s (omega (arith, s.twice, q tt)) (omega arith)
     ]
-
--- a difference that is at most what is taken away is exact
-pub close_exact : (x y : Float) (n k : ℕ) → InUnits x n → Held n → InUnits y k → Held k → k ≤ n → n - k ≤ k → InUnits (sub binary64 x y) (n - k)
-close_exact x y n k u h v g l c = sub_exact x y n k u v l (held_difference n k h g c)
-
--- x less the rounded difference of x and y is exact
-pub back_exact : (x y : Float) (n k : ℕ) → InUnits x n → Held n → InUnits y k → Held k → k ≤ n
-    → (m : ℕ) × InUnits (sub binary64 x y) m × InUnits (sub binary64 x (sub binary64 x y)) (n - m)
-back_exact x y n k u h v g l =
-    let d = difference x y n k u h v g l in
-    (d.units, d.is, sub_exact x (sub binary64 x y) n d.units u d.is d.at_most d.rest)

@@ -1,13 +1,13 @@
 -- Ranges through the operations: what is rounded once from numbers in ranges lies in the range of the ends, rounded once. So the ranges of a longer formula are found by
 -- computing with its ends. A test compares the computed ends with those that are wanted; of literals it computes to an answer. Assumes nothing.
-use Rattle.std.proofs.Common.{arith, ◌||◌, ◌≡◌, refl, ℕ, ◌*◌, Bool, true, false, cond, not, if◌then◌else◌, ◌&&◌, T, ◌⊎◌, ℤ, pos, sym, ap, ◌∙◌, subst, inl, inr, T_not}
+use Rattle.std.proofs.Common.{◌≡◌, refl, ◌*◌, Bool, true, false, cond, not, if◌then◌else◌, ◌&&◌, T, ◌⊎◌, pos, sym, ap, ◌∙◌, subst, inl, inr, T_not}
 use lib.Ieee.{Float, nan, inf, fin, binary64, unlike, up, down, round, neg, mul, lt, eq, le, is_nan}
 use lib.Ieee.Fits.{and_l, and_r}
-use Rattle.std.proofs.lemmas.Float.{le_refl, le_trans, le_of_lt, lt_of_lt_of_le, le_of_not-lt}
+use Rattle.std.proofs.lemmas.Float.{le_trans, le_of_lt, lt_of_lt_of_le, le_of_not-lt}
 use Rattle.f64_helpers.specs.F64.{◌⊕◌, ◌⊖◌, ◌⊗◌, ◌⊘◌, ◌<ᶠ◌, ◌≤ᶠ◌, ◌≥ᶠ◌, zero}
-use Rattle.f64_helpers.specs.Helpers.{abs, max, min, negative}
+use Rattle.f64_helpers.specs.Helpers.{max, negative}
 use Rattle.f64_helpers.specs.Ranges.{Between, is_finite, Finite}
-use Rattle.f64_helpers.proofs.Order.{fractions, in_order, number_at_most}
+use Rattle.f64_helpers.proofs.Order.{in_order, number_at_most}
 use Rattle.f64_helpers.proofs.Sums.{le_turned, not_negative_turned, zeros_level}
 use Rattle.f64_helpers.proofs.Signs.{neg_neg}
 use Rattle.f64_helpers.proofs.Negation.{neg_round}
@@ -194,24 +194,6 @@ cut {low} {x} {high} k f g K b =
     ]
 
 -- ---- the helpers
-size_not_negative : (m : ℕ) (e : ℤ) → T (zero ≤ᶠ fin false m e)
-unfolding le
-size_not_negative m e = (fractions false false (0 * 1) (m * up e) 1 (down e)).1 (omega arith)
-
-abs_of : (a b high : Float) (x : Float) → Finite x → Between a x b → T (neg a ≤ᶠ high) → T (b ≤ᶠ high) → Between zero (abs x) high
-unfolding abs neg
-abs_of a b high nan f p h k = absurd f
-abs_of a b high (inf s) f p h k = absurd f
-abs_of a b high (fin false m e) f p h k = record { from_low = size_not_negative m e; to_high = le_trans (fin false m e) b high p.to_high k }
-abs_of a b high (fin true m e) f p h k = record { from_low = size_not_negative m e; to_high = le_trans (fin false m e) (neg a) high (le_turned a (fin true m e) p.from_low) h }
-
-pub abs_in : {a x b high : Float} → Between a x b → T (ends a b && ((neg a ≤ᶠ high) && (b ≤ᶠ high))) → Between zero (abs x) high
-abs_in {a} {x} {b} {high} p t =
-    let s = split (ends a b) ((neg a ≤ᶠ high) && (b ≤ᶠ high)) t in
-    let e = ends_are a b s.0 in
-    let h = split (neg a ≤ᶠ high) (b ≤ᶠ high) s.1 in
-    abs_of a b high x (finite_between e.0 e.1 p) p h.0 h.1
-
 zero_in : (s : Bool) (high : Float) → T (zero ≤ᶠ high) → Between zero (fin s 0 (pos 0)) high
 zero_in s high h = record { from_low = zeros_level false s; to_high = le_trans (fin s 0 (pos 0)) zero high (zeros_level s false) h }
 
@@ -232,23 +214,6 @@ max_zero_in {a} {x} {b} {high} p t =
     go false true z h o u k = o
     go false false true h o u k = u
     go false false false h o u k = record { from_low = k tt; to_high = h }
-
--- the smaller of an x that is not negative and c
-pub min_in : {x b : Float} → Between zero x b → (c : Float) → T (is_finite b && (is_finite c && (zero ≤ᶠ c))) → Between zero (min x c) c
-unfolding min
-min_in {x} {b} p c t =
-    let s = split (is_finite b) (is_finite c && (zero ≤ᶠ c)) t in
-    let h = split (is_finite c) (zero ≤ᶠ c) s.1 in
-    let f = finite_between {low = zero} tt s.0 p in
-    go (is_nan x) (lt c x) (eq x zero && eq c zero) (record { from_low = h.1; to_high = le_refl c (finite_number c h.0) }) (zero_in (negative x || negative c) c h.1)
-    (le_of_not-lt c x (finite_number c h.0) (finite_number x f))
-  where
-    go : (n l z : Bool) → Between zero c c → Between zero (fin (negative x || negative c) 0 (pos 0)) c → (T (not l) → T (x ≤ᶠ c))
-        → Between zero (cond n c (cond l c (cond z (fin (negative x || negative c) 0 (pos 0)) x))) c
-    go true l z o u k = o
-    go false true z o u k = o
-    go false false true o u k = u
-    go false false false o u k = record { from_low = p.from_low; to_high = k tt }
 
 pub not_at_least : (x y : Float) → Finite x → Finite y → (x ≥ᶠ y) ≡ false → T (x ≤ᶠ y)
 not_at_least x y f g h = elim (at_most_or_least x y f g) [ inl k ↦ k | inr k ↦ absurd (subst T h k) ]
