@@ -5,7 +5,7 @@ use lib.Ieee.Fits.{add-fits, sub-fits, mul-fits, neg-fits, round-fits}
 use Rattle.std.proofs.lemmas.Float.{le_trans, lt_of_lt_of_le}
 use Rattle.f64_helpers.specs.F64.{◌⊕◌, ◌⊖◌, ◌⊗◌, ◌<ᶠ◌, ◌≤ᶠ◌, decimal, zero}
 use Rattle.f64_helpers.specs.Ranges.{Between, Finite, NotMinusZero}
-use Rattle.f64_helpers.proofs.Intervals.{finite_between, times_larger, sub_in}
+use Rattle.f64_helpers.proofs.Intervals.{finite_between, times_larger}
 use Rattle.f64_helpers.proofs.LargeDifferences.{difference_from_128}
 use Rattle.cdl_recurrences.specs.CdlRecurrences.{less_hysteretic}
 use Rattle.cooling_only_controller_conditioning.specs.Conditioning.{loop_pi, TEMPERATURE_HYSTERESIS, CONTROL_GAIN}
@@ -27,10 +27,8 @@ use Rattle.bounds.specs.Kept.{KeptLoopSign, KeptSigns}
 use Rattle.f64_helpers.proofs.SignedZeros.{opposite_sign, sum_not_minus_zero, decimal_sign, difference_not_minus_zero}
 use Rattle.f64_helpers.proofs.Tests.{yes}
 use Rattle.std.proofs.lemmas.Bool.{cond_both}
-
--- a number that f64 has
-abbrev Fits : Float → Type 0
-Fits x = T (fits binary64 x)
+use Rattle.bounds.proofs.PublishedBlocks.{Held}
+use Rattle.bounds.proofs.Loops.{error_in}
 
 -- of two temperatures, the one above the other
 module _ {above below : Float} (x : Between COLDEST above HOTTEST) (y : Between COLDEST below HOTTEST) (f : T (fits binary64 above)) (g : T (fits binary64 below)) (h : T (below <ᶠ above)) where
@@ -44,7 +42,7 @@ module _ {above below : Float} (x : Between COLDEST above HOTTEST) (y : Between 
 
   error_finite : Finite (above ⊖ below)
   unfolding round neg add sub le lt eq
-  error_finite = let e : Between (neg (decimal 300 1)) (above ⊖ below) (decimal 300 1) = sub_in x y tt in finite_between tt tt e
+  error_finite = finite_between tt tt (error_in x y)
 
   proportional_above : T (zero <ᶠ CONTROL_GAIN ⊗ (above ⊖ below))
   unfolding round mul le lt eq
@@ -68,6 +66,10 @@ rises below above previous h = go previous (below <ᶠ above) (below <ᶠ above 
     go true false true h = absurd h
     go true false false h = absurd h
 
+-- what is stored on a step that does not reset
+stepped : (integrator change : Float) → Held integrator → T (fits binary64 change) → Held (integrator ⊕ change)
+stepped integrator change h f = record { held = add-fits binary64 integrator change; not_minus_zero = sum_not_minus_zero integrator change h.held f (inl h.not_minus_zero) }
+
 -- ---- the loops
 
 module _ {above below : Float} (x : Between COLDEST above HOTTEST) (y : Between COLDEST below HOTTEST) (f : T (fits binary64 above)) (g : T (fits binary64 below))
@@ -81,13 +83,16 @@ module _ {above below : Float} (x : Between COLDEST above HOTTEST) (y : Between 
   rises_here : T reset → T (below <ᶠ above)
   rises_here h = rises below above enable (subst (λ (b : Bool). T (trigger && not b)) k.trigger h)
 
+  next : Held (loop_pi s t (above ⊖ below) trigger).state.integrator
+  unfolding loop_pi
+  next =
+      cond_both reset _ _ Held
+      (λ e. record { held = neg-fits binary64 _ (mul-fits binary64 CONTROL_GAIN (above ⊖ below)); not_minus_zero = reset_sign x y f g (rises_here (yes e)) })
+      (λ e. stepped s.integrator _ (record { held = k.held; not_minus_zero = k.sign }) (mul-fits binary64 _ _))
+
   pub loop_signs : KeptLoopSign trigger (loop_pi s t (above ⊖ below) trigger).state
   unfolding loop_pi
-  loop_signs = record {
-    held = cond_both reset _ _ Fits (λ e. neg-fits binary64 _ (mul-fits binary64 CONTROL_GAIN (above ⊖ below))) (λ e. add-fits binary64 s.integrator _);
-    sign = cond_both reset _ _ NotMinusZero (λ e. reset_sign x y f g (rises_here (yes e))) (λ e. sum_not_minus_zero s.integrator _ k.held (mul-fits binary64 _ _) (inl k.sign));
-    trigger = refl;
-  }
+  loop_signs = record { held = next.held; sign = next.not_minus_zero; trigger = refl }
 
 -- ---- the box
 
@@ -100,24 +105,25 @@ signs_fresh = record {
   damper_sign = tt;
 }
 
-pub damper_signs : (s : DamperState) (t : Float) (input : DamperInput) (choices : Choices) → T (fits binary64 s.integrator) → NotMinusZero s.integrator
-    → T (fits binary64 (damper s t input choices).state.integrator) × NotMinusZero (damper s t input choices).state.integrator
+-- the damper's reset stores 0.01 less a number
+damper_held : (s : DamperState) (t : Float) (input : DamperInput) (choices : Choices) → Held s.integrator → Held (damper s t input choices).state.integrator
 unfolding damper
-damper_signs s t input choices f n = (
-  cond_both (input.supply_fan_status && not s.previous_fan) _ _ Fits (λ e. sub-fits binary64 (decimal 1 100) _) (λ e. add-fits binary64 s.integrator _),
-  cond_both (input.supply_fan_status && not s.previous_fan) _ _ NotMinusZero
-      (λ e. difference_not_minus_zero (decimal 1 100) _ (round-fits binary64 false 1 100) (mul-fits binary64 _ _) (decimal_sign 1 100))
-      (λ e. sum_not_minus_zero s.integrator _ f (mul-fits binary64 _ _) (inl n)),
-)
+damper_held s t input choices h =
+    cond_both (input.supply_fan_status && not s.previous_fan) _ _ Held
+    (λ e. record {
+      held = sub-fits binary64 (decimal 1 100) _;
+      not_minus_zero = difference_not_minus_zero (decimal 1 100) _ (round-fits binary64 false 1 100) (mul-fits binary64 _ _) (decimal_sign 1 100);
+    })
+    (λ e. stepped s.integrator _ h (mul-fits binary64 _ _))
 
 -- over an accepted tick
 pub next_signs : (box : AirBox) (k : Tick) → Readings k.input → LoopReadingsHeld k → KeptSigns box.state → KeptSigns (controller_step_of box k).state
 unfolding controller_output control_loops
 next_signs box k r h s =
-    let d = damper_signs box.state.dampers k.t _ box.choices s.damper_held s.damper_sign in
+    let d = damper_held box.state.dampers k.t _ box.choices (record { held = s.damper_held; not_minus_zero = s.damper_sign }) in
     record {
       cooling = loop_signs r.zone_temperature r.cooling_setpoint h.zone_temperature h.cooling_setpoint box.state.control_loops.cooling_pi box.state.control_loops.cooling_enable s.cooling k.t;
       heating = loop_signs r.heating_setpoint r.zone_temperature h.heating_setpoint h.zone_temperature box.state.control_loops.heating_pi box.state.control_loops.heating_enable s.heating k.t;
-      damper_held = d.0;
-      damper_sign = d.1;
+      damper_held = d.held;
+      damper_sign = d.not_minus_zero;
     }
