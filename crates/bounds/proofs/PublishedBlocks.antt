@@ -30,6 +30,13 @@ use Rattle.f64_helpers.proofs.Intervals.{finite_number}
 use Rattle.f64_helpers.proofs.SignedZeros.{sum_not_minus_zero, difference_not_minus_zero}
 use Rattle.bounds.proofs.PublishedSampleIndex.{sample_index_same}
 
+-- a `max` and a `min` that Rust allows
+pub record Rust : Type 0 where
+  pub max : Float → Float → Float
+  pub min : Float → Float → Float
+  pub max_is : RustMax max
+  pub min_is : RustMin min
+
 -- an f64 that is not -0.0, as an integrator or a flow
 pub record Held (x : Float) : Type 0 where
   pub held : T (fits binary64 x)
@@ -181,51 +188,51 @@ one_below x n z = go (lt zeroᶠ x) (lt x zeroᶠ) (λ k. k) (λ k. k) (le_of_no
     go false true f g k l = refl
     go false false f g k l = absurd (z (equal_of_le x zeroᶠ (k tt) (l tt)))
 
-module _ (max min : Float → Float → Float) (rust_max : RustMax max) (rust_min : RustMin min) where
+module _ (r : Rust) where
   -- as numbers it is always the same, where the value is a number and the low end is not above the high end
-  clamp_equal : (value low high : Float) → T (not (is_nan value)) → T (le low high) → T (eq (published_clamp max min value low high) (clamp value low high))
+  clamp_equal : (value low high : Float) → T (not (is_nan value)) → T (le low high) → T (eq (published_clamp r.max r.min value low high) (clamp value low high))
   unfolding published_clamp clamp
   clamp_equal value low high n h =
-      let m = min value high in
-      let p = smaller_equal min rust_min value high n (le_right low high h) in
-      clamp_numbers value low high m (max low m) n h p (larger_equal max rust_max low m (le_left low high h) (le_left m (limited value high) (le_of_eq m (limited value high) p)))
+      let m = r.min value high in
+      let p = smaller_equal r.min r.min_is value high n (le_right low high h) in
+      clamp_numbers value low high m (r.max low m) n h p (larger_equal r.max r.max_is low m (le_left low high h) (le_left m (limited value high) (le_of_eq m (limited value high) p)))
 
   -- Between 0.0 and 1.0 it is the same in every bit, where the value is not -0.0.
   clamp_same : (value : Float) → T (not (is_nan value)) → T (fits binary64 value) → NotMinusZero value
-      → published_clamp max min value zeroᶠ (decimal 1 1) ≡ clamp value zeroᶠ (decimal 1 1)
+      → published_clamp r.max r.min value zeroᶠ (decimal 1 1) ≡ clamp value zeroᶠ (decimal 1 1)
   unfolding published_clamp clamp
   clamp_same value n f m =
-      rw (smaller min rust_min value (decimal 1 1) n (one_no_zero value))
-      (cond_both (lt (decimal 1 1) value) (decimal 1 1) value (λ x. max zeroᶠ x ≡ cond (lt value zeroᶠ) zeroᶠ x) (λ e. above (yes e)) (λ e. within))
+      rw (smaller r.min r.min_is value (decimal 1 1) n (one_no_zero value))
+      (cond_both (lt (decimal 1 1) value) (decimal 1 1) value (λ x. r.max zeroᶠ x ≡ cond (lt value zeroᶠ) zeroᶠ x) (λ e. above (yes e)) (λ e. within))
     where
-      above : T (lt (decimal 1 1) value) → max zeroᶠ (decimal 1 1) ≡ cond (lt value zeroᶠ) zeroᶠ (decimal 1 1)
+      above : T (lt (decimal 1 1) value) → r.max zeroᶠ (decimal 1 1) ≡ cond (lt value zeroᶠ) zeroᶠ (decimal 1 1)
       above k =
-          larger max rust_max zeroᶠ (decimal 1 1) zero_number (one_no_zero zeroᶠ)
+          larger r.max r.max_is zeroᶠ (decimal 1 1) zero_number (one_no_zero zeroᶠ)
           ∙ rw (
             is_true (lt zeroᶠ (decimal 1 1)) zero_below_one,
             is_false (lt value zeroᶠ) (not_T (lt value zeroᶠ) (λ l. lt_irrefl value (lt_trans value zeroᶠ value l (lt_trans zeroᶠ (decimal 1 1) value zero_below_one k)))),
           ) refl
 
-      within : max zeroᶠ value ≡ cond (lt value zeroᶠ) zeroᶠ value
+      within : r.max zeroᶠ value ≡ cond (lt value zeroᶠ) zeroᶠ value
       within = by_zero (eq value zeroᶠ) refl
         where
-          by_zero : (b : Bool) → eq value zeroᶠ ≡ b → max zeroᶠ value ≡ cond (lt value zeroᶠ) zeroᶠ value
-          by_zero true e = rw (plain_zero value f m (yes e)) (zero_and_zero max rust_max)
-          by_zero false e = larger max rust_max zeroᶠ value zero_number (zero_beside value ∙ e) ∙ one_below value n (λ k. true≢false (sym (is_true (eq value zeroᶠ) k) ∙ e))
+          by_zero : (b : Bool) → eq value zeroᶠ ≡ b → r.max zeroᶠ value ≡ cond (lt value zeroᶠ) zeroᶠ value
+          by_zero true e = rw (plain_zero value f m (yes e)) (zero_and_zero r.max r.max_is)
+          by_zero false e = larger r.max r.max_is zeroᶠ value zero_number (zero_beside value ∙ e) ∙ one_below value n (λ k. true≢false (sym (is_true (eq value zeroᶠ) k) ∙ e))
 
   -- So it is for a PI before its limits, whose integrator is not -0.0.
   pub limits_same : (gain error integrator : Float) → Held integrator → Finite (gain ⊗ error ⊕ integrator)
-      → published_clamp max min (gain ⊗ error ⊕ integrator) zeroᶠ (decimal 1 1) ≡ clamp (gain ⊗ error ⊕ integrator) zeroᶠ (decimal 1 1)
+      → published_clamp r.max r.min (gain ⊗ error ⊕ integrator) zeroᶠ (decimal 1 1) ≡ clamp (gain ⊗ error ⊕ integrator) zeroᶠ (decimal 1 1)
   limits_same gain error integrator kept f =
       clamp_same (gain ⊗ error ⊕ integrator) (finite_number (gain ⊗ error ⊕ integrator) f) (add-fits binary64 (gain ⊗ error) integrator)
       (sum_not_minus_zero (gain ⊗ error) integrator (mul-fits binary64 gain error) kept.held (inr kept.not_minus_zero))
 
   -- ---- the line, of which f2 is an f64 that is not -0.0
-  pub line_same : (x1 f1 x2 f2 u : Float) → Finite u → T (le x1 x2) → Held f2 → buildings_line_over (published max min) x1 f1 x2 f2 u ≡ buildings_line x1 f1 x2 f2 u
+  pub line_same : (x1 f1 x2 f2 u : Float) → Finite u → T (le x1 x2) → Held f2 → buildings_line_over (published r.max r.min) x1 f1 x2 f2 u ≡ buildings_line x1 f1 x2 f2 u
   unfolding buildings_line_over buildings_line
   line_same x1 f1 x2 f2 u f h kept =
       let slope = (f2 ⊖ f1) ⊘ (x2 ⊖ x1) in
-      sum_same (f2 ⊖ slope ⊗ x2) slope (published_clamp max min u x1 x2) (clamp u x1 x2)
+      sum_same (f2 ⊖ slope ⊗ x2) slope (published_clamp r.max r.min u x1 x2) (clamp u x1 x2)
       (difference_not_minus_zero f2 (slope ⊗ x2) kept.held (mul-fits binary64 slope x2) kept.not_minus_zero) (clamp_equal u x1 x2 (finite_number u f) h)
 
 -- ---- the larger of a difference of times and 0.0, where the sign of a zero does not show
@@ -258,38 +265,38 @@ pub record Started (t0 t : Float) : Type 0 where
   pub whole : Whole t0 (seconds t0)
   pub begun : seconds t0 ≤ seconds t
 
-module _ (max min : Float → Float → Float) (rust_max : RustMax max) where
+module _ (r : Rust) where
   delay_output_same : (t : Float) (u : Bool) (delay_time : Float) (delay_on_init : Bool) (previous_time : Option Float) (previous_u held : Bool) (timer : Float)
       → both_zero delay_time zeroᶠ ≡ false → NotMinusZero timer
-      → true_delay_output_over (published max min) t u delay_time delay_on_init previous_time previous_u held timer ≡ true_delay_output t u delay_time delay_on_init previous_time previous_u held timer
+      → true_delay_output_over (published r.max r.min) t u delay_time delay_on_init previous_time previous_u held timer ≡ true_delay_output t u delay_time delay_on_init previous_time previous_u held timer
   unfolding true_delay_output_over true_delay_output
   delay_output_same t false delay_time delay_on_init previous_time previous_u held timer e n = refl
-  delay_output_same t true delay_time delay_on_init None previous_u held timer e n = rw (rust_max.off_zeros delay_time zeroᶠ e) refl
+  delay_output_same t true delay_time delay_on_init None previous_u held timer e n = rw (r.max_is.off_zeros delay_time zeroᶠ e) refl
   delay_output_same t true delay_time delay_on_init (Some previous) previous_u held timer e n =
-      rw (rust_max.off_zeros delay_time zeroᶠ e, step_added max rust_max (t ⊖ previous) timer n) refl
+      rw (r.max_is.off_zeros delay_time zeroᶠ e, step_added r.max r.max_is (t ⊖ previous) timer n) refl
 
   true_delay_same : (s : TrueDelayState) (t delay_time : Float) (delay_on_init : Bool) → both_zero delay_time zeroᶠ ≡ false → NotMinusZero s.timer → (input : Bool)
-      → true_delay_over (published max min) s t input delay_time delay_on_init ≡ true_delay s t input delay_time delay_on_init
+      → true_delay_over (published r.max r.min) s t input delay_time delay_on_init ≡ true_delay s t input delay_time delay_on_init
   unfolding true_delay_over true_delay
   true_delay_same s t delay_time delay_on_init e n input =
       rw (delay_output_same t input delay_time delay_on_init s.previous_time s.previous_input s.held s.timer e n) refl
 
   -- of n seconds
   pub delay_same : (n : ℕ) → T (ltb 0 n && leb n 1800) → (s : TrueDelayState) (t : Float) (delay_on_init : Bool) → NotMinusZero s.timer → (input : Bool)
-      → true_delay_over (published max min) s t input (decimal n 1) delay_on_init ≡ true_delay s t input (decimal n 1) delay_on_init
+      → true_delay_over (published r.max r.min) s t input (decimal n 1) delay_on_init ≡ true_delay s t input (decimal n 1) delay_on_init
   delay_same n h s t delay_on_init k input = true_delay_same s t (decimal n 1) delay_on_init (length_no_zero n (and_l (ltb 0 n) (leb n 1800) h) (and_r (ltb 0 n) (leb n 1800) h)) k input
 
   pub integral_same : (x : Float) (previous_time : Option Float) (t : Float) → NotMinusZero x → (g : Float)
-      → x ⊕ g ⊗ step_seconds_over (published max min) previous_time t ≡ x ⊕ g ⊗ step_seconds previous_time t
+      → x ⊕ g ⊗ step_seconds_over (published r.max r.min) previous_time t ≡ x ⊕ g ⊗ step_seconds previous_time t
   integral_same x None t n g = refl
-  integral_same x (Some previous) t n g = product_of_step max rust_max (t ⊖ previous) x g n
+  integral_same x (Some previous) t n g = product_of_step r.max r.max_is (t ⊖ previous) x g n
 
   -- a grid that starts on a whole second, which is not after t
   module _ (t : Float) (time : IsTime t) (t0 : Float) (started : Started t0 t) where
     index_same : published_sample_index t t0 (decimal 120 1) ≡ sample_index t t0 (decimal 120 1)
     index_same = sample_index_same t t0 (seconds t) (seconds t0) time.0 started.whole started.begun time.1
 
-    due_same : (last : ℤ) → sample_due_over (published max min) t t0 (decimal 120 1) last ≡ sample_due t t0 (decimal 120 1) last
+    due_same : (last : ℤ) → sample_due_over (published r.max r.min) t t0 (decimal 120 1) last ≡ sample_due t t0 (decimal 120 1) last
     unfolding sample_due_over sample_due
     due_same last = rw index_same refl
 
@@ -301,11 +308,11 @@ module _ (max min : Float → Float → Float) (rust_max : RustMax max) where
       (initial_sample_time_whole t (decimal 120 1) n 120 time.0 time.1 (decimal_whole 120 (omega arith)) (zero-lt-suc 119) (lit≤ tt)) (div-mul-le_self n 120) time.1
 
   pub sampler_same : (s : SamplerState) (t : Float) → IsTime t → Started s.t0 t → (input : Float)
-      → sampler_sample_over (published max min) s t input (decimal 120 1) ≡ sampler_sample s t input (decimal 120 1)
+      → sampler_sample_over (published r.max r.min) s t input (decimal 120 1) ≡ sampler_sample s t input (decimal 120 1)
   unfolding sampler_sample_over sampler_sample sampler_output_over sampler_output
   sampler_same s t time started input = rw (due_same t time s.t0 started s.last_index, first_index_same t time) refl
 
   pub unit_delay_same : (s : UnitDelayState) (t : Float) → IsTime t → Started s.t0 t → (input : Float)
-      → unit_delay_sample_over (published max min) s t input (decimal 120 1) ≡ unit_delay_sample s t input (decimal 120 1)
+      → unit_delay_sample_over (published r.max r.min) s t input (decimal 120 1) ≡ unit_delay_sample s t input (decimal 120 1)
   unfolding unit_delay_sample_over unit_delay_sample
   unit_delay_same s t time started input = rw (due_same t time s.t0 started s.last_index, first_index_same t time) refl

@@ -36,7 +36,7 @@ use Rattle.air_box.specs.declared.Tick.{Tick}
 use Rattle.air_box.specs.declared.AirBox.{AirBox}
 use Rattle.bounds.specs.PublishedHelpers.{published, RustMax, RustMin}
 use Rattle.bounds.specs.PublishedController.{time_suppression_over, loop_pi_over, control_loops_over, setpoints_over, zone_states_over, damper_over, system_requests_over, alarms_over, controller_output_over}
-use Rattle.bounds.proofs.PublishedBlocks.{Held, Started, hysteresis_same, limits_same, line_same, delay_same, integral_same, sampler_same, unit_delay_same}
+use Rattle.bounds.proofs.PublishedBlocks.{Rust, Held, Started, hysteresis_same, limits_same, line_same, delay_same, integral_same, sampler_same, unit_delay_same}
 use Rattle.f64_helpers.proofs.SignedZeros.{decimal_sign}
 use mathlib.Core.Bool.{and-false}
 use Rattle.std.proofs.lemmas.Bool.{cond_both}
@@ -152,36 +152,36 @@ sampled_finite : (s : SamplerState) (t input period : Float) → Finite s.held �
 unfolding sampler_sample sampler_output
 sampled_finite s t input period h k = cond_both (not s.initialized || (sample_due t s.t0 period s.last_index).due) input s.held Finite (λ e. k) (λ e. h)
 
-module _ (max min : Float → Float → Float) (rust_max : RustMax max) (rust_min : RustMin min) where
+module _ (r : Rust) where
   -- ---- time suppression
-  window_same : (x : Float) → min x (decimal 1800 1) ≡ Today.min x (decimal 1800 1)
-  window_same x = rust_min.off_zeros x (decimal 1800 1) (window_above_zero x)
+  window_same : (x : Float) → r.min x (decimal 1800 1) ≡ Today.min x (decimal 1800 1)
+  window_same x = r.min_is.off_zeros x (decimal 1800 1) (window_above_zero x)
 
   suppression_same : (s : TimeSuppressionState) (t setpoint_temperature zone_temperature : Float) → IsTime t → SuppressionKept s t
-      → time_suppression_over (published max min) s t setpoint_temperature zone_temperature ≡ time_suppression s t setpoint_temperature zone_temperature
+      → time_suppression_over (published r.max r.min) s t setpoint_temperature zone_temperature ≡ time_suppression s t setpoint_temperature zone_temperature
   unfolding time_suppression_over time_suppression
   suppression_same s t setpoint_temperature zone_temperature time kept =
       rw (
-        sampler_same max min rust_max s.setpoint_sampler t time kept.setpoint_grid,
-        unit_delay_same max min rust_max s.previous_sample t time kept.previous_grid,
-        delay_same max min rust_max 120 tt s.startup_delay t true kept.startup_timer,
+        sampler_same r s.setpoint_sampler t time kept.setpoint_grid,
+        unit_delay_same r s.previous_sample t time kept.previous_grid,
+        delay_same r 120 tt s.startup_delay t true kept.startup_timer,
         window_same,
       )
       refl
 
   -- ---- the loops
   loop_same : (s : LoopPiState) (t error : Float) (trigger : Bool) → Held s.integrator → Finite (loop_unlimited s error)
-      → loop_pi_over (published max min) s t error trigger ≡ loop_pi s t error trigger
+      → loop_pi_over (published r.max r.min) s t error trigger ≡ loop_pi s t error trigger
   unfolding loop_pi_over loop_pi
   loop_same s t error trigger kept n =
       rw (
-        limits_same max min rust_max rust_min (decimal 1 10) error s.integrator kept n,
-        integral_same max min rust_max s.integrator s.previous_time t kept.not_minus_zero,
+        limits_same r (decimal 1 10) error s.integrator kept n,
+        integral_same r s.integrator s.previous_time t kept.not_minus_zero,
       )
       refl
 
   loops_same : (s : ControlLoopsState) (t cooling_setpoint zone_temperature heating_setpoint : Float) → LoopsKept s → LoopSignals s t cooling_setpoint zone_temperature heating_setpoint
-      → control_loops_over (published max min) s t cooling_setpoint zone_temperature heating_setpoint ≡ control_loops s t cooling_setpoint zone_temperature heating_setpoint
+      → control_loops_over (published r.max r.min) s t cooling_setpoint zone_temperature heating_setpoint ≡ control_loops s t cooling_setpoint zone_temperature heating_setpoint
   unfolding control_loops_over control_loops
   loops_same s t cooling_setpoint zone_temperature heating_setpoint kept signals =
       let cooling_enable = less_hysteretic cooling_setpoint zone_temperature TEMPERATURE_HYSTERESIS s.cooling_enable in
@@ -189,14 +189,14 @@ module _ (max min : Float → Float → Float) (rust_max : RustMax max) (rust_mi
       rw (
         loop_same s.cooling_pi t (zone_temperature ⊖ cooling_setpoint) cooling_enable kept.cooling_integrator signals.cooling_unlimited,
         loop_same s.heating_pi t (heating_setpoint ⊖ zone_temperature) heating_enable kept.heating_integrator signals.heating_unlimited,
-        delay_same max min rust_max 30 tt s.cooling_delay t false kept.cooling_timer,
-        delay_same max min rust_max 30 tt s.heating_delay t false kept.heating_timer,
+        delay_same r 30 tt s.cooling_delay t false kept.cooling_timer,
+        delay_same r 30 tt s.heating_delay t false kept.heating_timer,
       )
       refl
 
   -- ---- the ventilation setpoints
   setpoints_same : (s : SetpointsState) (input : SetpointInput) (choices : Choices) → Ventilation input choices.design_cooling_maximum_flow
-      → setpoints_over (published max min) s input choices ≡ setpoints s input choices
+      → setpoints_over (published r.max r.min) s input choices ≡ setpoints s input choices
   unfolding setpoints_over setpoints
   setpoints_same s input choices v =
       let low = input.co2_setpoint ⊖ decimal 200 1 in
@@ -206,15 +206,15 @@ module _ (max min : Float → Float → Float) (rust_max : RustMax max) (rust_mi
       let most = choices.design_cooling_maximum_flow in
       let least = choices.design_minimum_flow in
       rw (
-        line_same max min rust_max rust_min low zero input.co2_setpoint one input.co2_concentration v.co2_concentration v.co2_band (held_decimal 1 1),
-        line_same max min rust_max rust_min zero least one most corrected corrected_finite ranges.unit v.cooling_maximum,
-        line_same max min rust_max rust_min zero zero one (decimal 5 1000) corrected corrected_finite ranges.unit (held_decimal 5 1000),
+        line_same r low zero input.co2_setpoint one input.co2_concentration v.co2_concentration v.co2_band (held_decimal 1 1),
+        line_same r zero least one most corrected corrected_finite ranges.unit v.cooling_maximum,
+        line_same r zero zero one (decimal 5 1000) corrected corrected_finite ranges.unit (held_decimal 5 1000),
       )
       refl
 
   -- ---- the zone state
   zone_same : (s : ZoneStatesState) (heating cooling : Float) → Finite heating → Finite cooling → Finite (heating ⊖ cooling)
-      → zone_states_over (published max min) s heating cooling ≡ zone_states s heating cooling
+      → zone_states_over (published r.max r.min) s heating cooling ≡ zone_states s heating cooling
   unfolding zone_states_over zone_states
   zone_same s heating cooling h c d =
       rw (
@@ -228,7 +228,7 @@ module _ (max min : Float → Float → Float) (rust_max : RustMax max) (rust_mi
   damper_same : (s : DamperState) (t : Float) (input : DamperInput) (choices : Choices) → Held s.integrator → Finite input.cooling_loop
       → Held input.active_cooling_maximum_flow
       → Finite (damper_unlimited s (damper s t input choices).output.airflow_setpoint input.discharge_airflow choices.design_cooling_maximum_flow)
-      → damper_over (published max min) s t input choices ≡ damper s t input choices
+      → damper_over (published r.max r.min) s t input choices ≡ damper s t input choices
   unfolding damper_over damper
   damper_same s t input choices kept loop maximum n =
       let most = input.active_cooling_maximum_flow in
@@ -237,16 +237,16 @@ module _ (max min : Float → Float → Float) (rust_max : RustMax max) (rust_mi
       let M = choices.design_cooling_maximum_flow in
       let setpoint = (damper s t input choices).output.airflow_setpoint in
       rw (
-        line_same max min rust_max rust_min zero least one most input.cooling_loop loop ranges.unit maximum,
-        limits_same max min rust_max rust_min (decimal 5 10) (setpoint ⊘ M ⊖ input.discharge_airflow ⊘ M) s.integrator kept n,
-        integral_same max min rust_max s.integrator s.previous_time t kept.not_minus_zero,
+        line_same r zero least one most input.cooling_loop loop ranges.unit maximum,
+        limits_same r (decimal 5 10) (setpoint ⊘ M ⊖ input.discharge_airflow ⊘ M) s.integrator kept n,
+        integral_same r s.integrator s.previous_time t kept.not_minus_zero,
       )
       refl
 
   -- ---- the system requests
   requests_same : (s : SystemRequestsState) (t : Float) (input : SystemRequestInput) (choices : Choices) → IsTime t → RequestsKept s t
       → Finite (input.zone_temperature ⊖ input.cooling_setpoint) → Finite input.cooling_loop → Finite input.airflow_setpoint → Finite input.damper_position
-      → system_requests_over (published max min) s t input choices ≡ system_requests s t input choices
+      → system_requests_over (published r.max r.min) s t input choices ≡ system_requests s t input choices
   unfolding system_requests_over system_requests
   requests_same s t input choices time kept error loop airflow position =
       let difference = input.zone_temperature ⊖ input.cooling_setpoint in
@@ -256,40 +256,40 @@ module _ (max min : Float → Float → Float) (rust_max : RustMax max) (rust_mi
       rw (
         hysteresis_same difference (decimal 275 100) (decimal 3 1) s.hot_three error ranges.hot_three,
         hysteresis_same difference (decimal 175 100) (decimal 2 1) s.hot_two error ranges.hot_two,
-        delay_same max min rust_max 120 tt s.hot_three_delay t choices.quiet kept.hot_three_timer,
-        delay_same max min rust_max 120 tt s.hot_two_delay t choices.quiet kept.hot_two_timer,
-        sampler_same max min rust_max s.cooling_sampler t time kept.cooling_grid,
-        sampler_same max min rust_max s.setpoint_sampler t time kept.setpoint_grid,
-        sampler_same max min rust_max s.discharge_sampler t time kept.discharge_grid,
-        sampler_same max min rust_max s.damper_sampler t time kept.damper_grid,
+        delay_same r 120 tt s.hot_three_delay t choices.quiet kept.hot_three_timer,
+        delay_same r 120 tt s.hot_two_delay t choices.quiet kept.hot_two_timer,
+        sampler_same r s.cooling_sampler t time kept.cooling_grid,
+        sampler_same r s.setpoint_sampler t time kept.setpoint_grid,
+        sampler_same r s.discharge_sampler t time kept.discharge_grid,
+        sampler_same r s.damper_sampler t time kept.damper_grid,
         hysteresis_same cooling.output (decimal 94 100) (decimal 95 100) s.cooling_high (sampled_finite s.cooling_sampler t input.cooling_loop (decimal 120 1) kept.cooling_held loop) ranges.high,
         hysteresis_same airflow_setpoint.output (decimal 5 1000) (decimal 1 100) s.setpoint_on
             (sampled_finite s.setpoint_sampler t input.airflow_setpoint (decimal 120 1) kept.setpoint_held airflow) ranges.flow,
         hysteresis_same command.output (decimal 94 100) (decimal 95 100) s.damper_high (sampled_finite s.damper_sampler t input.damper_position (decimal 120 1) kept.damper_held position) ranges.high,
-        delay_same max min rust_max 60 tt s.damper_delay t choices.quiet kept.damper_timer,
+        delay_same r 60 tt s.damper_delay t choices.quiet kept.damper_timer,
       )
       refl
 
   -- ---- the alarms
   alarms_same : (s : AlarmsState) (t : Float) (input : AlarmInput) (choices : Choices) → AlarmsKept s → Finite input.active_airflow_setpoint
-      → alarms_over (published max min) s t input choices ≡ alarms s t input choices
+      → alarms_over (published r.max r.min) s t input choices ≡ alarms s t input choices
   unfolding alarms_over alarms
   alarms_same s t input choices kept setpoint =
       rw (
-        delay_same max min rust_max 1800 tt s.fan_armed t false kept.fan_timer,
+        delay_same r 1800 tt s.fan_armed t false kept.fan_timer,
         hysteresis_same input.active_airflow_setpoint (decimal 5 1000) (decimal 1 100) s.setpoint_nonzero setpoint ranges.flow,
-        delay_same max min rust_max 300 tt s.setpoint_on t choices.quiet kept.setpoint_timer,
-        delay_same max min rust_max 300 tt s.low_half_delay t choices.quiet kept.low_half_timer,
-        delay_same max min rust_max 300 tt s.low_seventy_delay t choices.quiet kept.low_seventy_timer,
-        delay_same max min rust_max 600 tt s.sensor_delay t choices.quiet kept.sensor_timer,
-        delay_same max min rust_max 600 tt s.leak_delay t choices.quiet kept.leak_timer,
+        delay_same r 300 tt s.setpoint_on t choices.quiet kept.setpoint_timer,
+        delay_same r 300 tt s.low_half_delay t choices.quiet kept.low_half_timer,
+        delay_same r 300 tt s.low_seventy_delay t choices.quiet kept.low_seventy_timer,
+        delay_same r 600 tt s.sensor_delay t choices.quiet kept.sensor_timer,
+        delay_same r 600 tt s.leak_delay t choices.quiet kept.leak_timer,
       )
       refl
 
   -- ---- the controller
   controller_same : (s : ControllerState) (t : Float) (input : ControllerInput) (choices : Choices)
       → IsTime t → Ventilation (setpoint_input input) choices.design_cooling_maximum_flow → MemoriesKept s t → Signals s t input choices
-      → controller_output_over (published max min) s t input choices ≡ controller_output s t input choices
+      → controller_output_over (published r.max r.min) s t input choices ≡ controller_output s t input choices
   unfolding controller_output_over controller_output
   controller_same s t input choices time handed kept signals =
       let suppression = time_suppression s.time_suppression t input.cooling_setpoint input.zone_temperature in
@@ -317,4 +317,4 @@ module _ (max min : Float → Float → Float) (rust_max : RustMax max) (rust_mi
 pub published_agrees : (max min : Float → Float → Float) → RustMax max → RustMin min → (box : AirBox) (k : Tick) → Handed box k
     → controller_output_over (published max min) box.state k.t k.input box.choices ≡ controller_output box.state k.t k.input box.choices
 published_agrees max min rust_max rust_min box k handed =
-    controller_same max min rust_max rust_min box.state k.t k.input box.choices handed.time handed.ventilation handed.memories handed.signals
+    controller_same (record { max = max; min = min; max_is = rust_max; min_is = rust_min }) box.state k.t k.input box.choices handed.time handed.ventilation handed.memories handed.signals
