@@ -50,6 +50,7 @@ record Tests (smallest quotient error part sum end : Float) : Type 0 where
   sum_finite : Finite (neg sum) × Finite sum
   end_around : T ((neg end ≤ᶠ zero) && (zero ≤ᶠ end))
 
+-- a size, by its tests and by the tables of its integrator
 size : {smallest quotient error part sum end wide : Float} → Tests smallest quotient error part sum end → Tables DAMPER_GAIN DAMPER_INTEGRAL_TIME error LONGEST_STEP end wide → Size smallest error end
 size {smallest} {quotient} {error} {part} {sum} {end} t tables = record {
   error_in = λ s f m. sub_in s (over f m) t.difference;

@@ -58,12 +58,14 @@ hysteresis_same u low high previous f h =
     go false false false f = refl
 
 -- ---- document 01's `max` and `min` are among those that Rust allows
+-- each of two zeros is one
 both_l : (x y : Float) → both_zero x y ≡ true → T (eq x zeroᶠ)
 both_l x y e = and_l (eq x zeroᶠ) (eq y zeroᶠ) (yes e)
 
 both_r : (x y : Float) → both_zero x y ≡ true → T (eq y zeroᶠ)
 both_r x y e = and_r (eq x zeroᶠ) (eq y zeroᶠ) (yes e)
 
+-- the sign that `max` gives of two zeros is that of one of them, and so for `min`
 one_sign : (s t : Bool) → (fin (s && t) 0 (pos 0) ≡ fin s 0 (pos 0)) ⊎ (fin (s && t) 0 (pos 0) ≡ fin t 0 (pos 0))
 one_sign true t = inr refl
 one_sign false t = inl refl
@@ -87,7 +89,7 @@ pub todays_min : RustMin Today.min
 todays_min = record { off_zeros = λ x y e. refl; of_zeros = λ x y e. rw (min_of_zeros x y e) (either_sign (negative x) (negative y)) }
 
 -- ---- the one that is picked of two numbers, by a comparison: off zeros it is that one, and of zeros it is equal to it
--- one of two zeros, of a sign of its own
+-- what holds of a zero of either sign holds of one of two zeros
 one_zero : {z : Float} {s t : Bool} (P : Float → Type 0) → ((r : Bool) → P (fin r 0 (pos 0))) → (z ≡ fin s 0 (pos 0)) ⊎ (z ≡ fin t 0 (pos 0)) → P z
 one_zero {z} {s} {t} P f c = ⊎_elim (λ e. subst P (sym e) (f s)) (λ e. subst P (sym e) (f t)) c
 
@@ -174,6 +176,7 @@ zero_beside : (x : Float) → both_zero zeroᶠ x ≡ eq x zeroᶠ
 unfolding eq
 zero_beside x = refl
 
+-- of two zeros of one sign there is no choice
 zero_and_zero : (max : Float → Float → Float) → RustMax max → max zeroᶠ zeroᶠ ≡ cond (lt zeroᶠ zeroᶠ) zeroᶠ zeroᶠ
 unfolding eq lt
 zero_and_zero max rust = ⊎_elim (λ e. e) (λ e. e) (rust.of_zeros zeroᶠ zeroᶠ refl)
@@ -268,7 +271,8 @@ pub record Started (t0 t : Float) : Type 0 where
 module _ (r : Rust) where
   delay_output_same : (t : Float) (u : Bool) (delay_time : Float) (delay_on_init : Bool) (previous_time : Option Float) (previous_u held : Bool) (timer : Float)
       → both_zero delay_time zeroᶠ ≡ false → NotMinusZero timer
-      → true_delay_output_over (published r.max r.min) t u delay_time delay_on_init previous_time previous_u held timer ≡ true_delay_output t u delay_time delay_on_init previous_time previous_u held timer
+      → true_delay_output_over (published r.max r.min) t u delay_time delay_on_init previous_time previous_u held timer
+      ≡ true_delay_output t u delay_time delay_on_init previous_time previous_u held timer
   unfolding true_delay_output_over true_delay_output
   delay_output_same t false delay_time delay_on_init previous_time previous_u held timer e n = refl
   delay_output_same t true delay_time delay_on_init None previous_u held timer e n = rw (r.max_is.off_zeros delay_time zeroᶠ e) refl
