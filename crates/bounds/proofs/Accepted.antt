@@ -2,11 +2,11 @@
 use Rattle.std.proofs.Common.{◌≡◌, Bool, true, false, ◌&&◌, T, subst, Some, None, Option, lit≤, zero-le}
 use lib.Ieee.{Float, round, neg, add, sub, lt, eq, le}
 use lib.Ieee.Fits.{and_l, and_r}
-use Rattle.f64_helpers.specs.F64.{◌⊖◌, ◌≤ᶠ◌, ◌≥ᶠ◌, decimal, zero}
+use Rattle.f64_helpers.specs.F64.{◌⊖◌, decimal, zero}
 use Rattle.f64_helpers.specs.Helpers.{max}
 use Rattle.f64_helpers.specs.Seconds.{IsTime, seconds}
 use Rattle.f64_helpers.specs.Ranges.{Between}
-use Rattle.f64_helpers.proofs.Intervals.{wider, inside, sub_in, max_zero_in}
+use Rattle.f64_helpers.proofs.Intervals.{between, wider, inside, sub_in, max_zero_in}
 use Rattle.f64_helpers.proofs.WholeSeconds.{zero_whole}
 use Rattle.f64_helpers.proofs.Times.{at_most_whole, at_most_by, decimal_whole}
 use Rattle.cooling_only_controller.specs.declared.ControllerInput.{ControllerInput}
@@ -29,7 +29,7 @@ pub record Readings (input : ControllerInput) : Type 0 where
 
 -- x lies within the ends of a question, and these within those that are wanted
 asked : {low high : Float} (x a b : Float) → T (within x a b) → T (inside low a b high) → Between low x high
-asked x a b h i = wider {a = a} {b = b} (record { from_low = and_l (x ≥ᶠ a) (x ≤ᶠ b) h; to_high = and_r (x ≥ᶠ a) (x ≤ᶠ b) h }) i
+asked x a b h i = wider {a = a} {b = b} (between h) i
 
 -- the first three of the five temperatures
 three : (a b c d e : Bool) → T (a && b && c && d && e) → T a × T b × T c
@@ -57,7 +57,10 @@ readings_in last k all =
 -- ---- times
 
 time_in : {t : Float} → IsTime t → Between zero t (decimal 2147483648 1)
-time_in {t} i = record { from_low = at_most_by zero t 0 (seconds t) zero_whole i.0 zero-le; to_high = at_most_by t (decimal 2147483648 1) (seconds t) 2147483648 i.0 (decimal_whole 2147483648 (lit≤ tt)) i.1 }
+time_in {t} i = record {
+  from_low = at_most_by zero t 0 (seconds t) zero_whole i.0 zero-le;
+  to_high = at_most_by t (decimal 2147483648 1) (seconds t) 2147483648 i.0 (decimal_whole 2147483648 (lit≤ tt)) i.1;
+}
 
 -- a time less an earlier one, by questions 3 and 4
 step_in : (previous t : Float) → IsTime previous → IsTime t → T (soon_after (Some previous) t) → Between zero (max (t ⊖ previous) zero) LONGEST_STEP

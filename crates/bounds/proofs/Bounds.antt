@@ -2,7 +2,7 @@
 use Rattle.std.proofs.Common.{◌≡◌, refl, ℕ, ◌⊎◌, ap, ◌∙◌, subst₂, List, [], ◌∷◌, Bool, sym, subst, inl}
 use lib.Ieee.{Float, round, neg, lt, eq, le, fits}
 use lib.Ieee.Fits.{and_l, and_r}
-use Rattle.f64_helpers.specs.F64.{◌≤ᶠ◌, ◌≥ᶠ◌, decimal, zero}
+use Rattle.f64_helpers.specs.F64.{decimal, zero}
 use Rattle.f64_helpers.specs.Ranges.{Between, Finite}
 use Rattle.box_choices.specs.declared.Choices.{Choices}
 use Rattle.cooling_only_controller.specs.declared.ControllerOutput.{ControllerOutput}
@@ -22,6 +22,7 @@ use Rattle.bounds.proofs.Damper as Dampers
 use Rattle.bounds.proofs.Damper.{Size, any_size}
 use Rattle.bounds.proofs.KeptBox.{fresh_box_kept, next_box_kept, outputs_in}
 use Rattle.bounds.proofs.Numbers.{box_numbers, output_numbers}
+use Rattle.f64_helpers.proofs.Intervals.{between}
 
 -- a box that keeps its ranges, and was built with these choices
 pub record Keeps (choices : Choices) (end : Float) (box : AirBox) : Type 0 where
@@ -81,20 +82,15 @@ flows_of_built choices b =
     let maximum = choices.design_cooling_maximum_flow in
     let h = and_l (within maximum (decimal 1 10) (decimal 10 1)) (within minimum zero maximum) b.within in
     let l = and_r (within maximum (decimal 1 10) (decimal 10 1)) (within minimum zero maximum) b.within in
-    record {
-      minimum_held = b.minimum_held;
-      maximum_held = b.maximum_held;
-      minimum = record { from_low = and_l (minimum ≥ᶠ zero) (minimum ≤ᶠ maximum) l; to_high = and_r (minimum ≥ᶠ zero) (minimum ≤ᶠ maximum) l };
-      maximum = record { from_low = and_l (maximum ≥ᶠ decimal 1 10) (maximum ≤ᶠ decimal 10 1) h; to_high = and_r (maximum ≥ᶠ decimal 1 10) (maximum ≤ᶠ decimal 10 1) h };
-    }
+    record { minimum_held = b.minimum_held; maximum_held = b.maximum_held; minimum = between l; maximum = between h }
 
 usual_flows : (start : Start) (second_reading : Bool) → FlowsIn (usual_size start second_reading)
 unfolding round fits le lt eq
-usual_flows start second_reading = record { minimum_held = tt; maximum_held = tt; minimum = record { from_low = tt; to_high = tt }; maximum = record { from_low = tt; to_high = tt } }
+usual_flows start second_reading = record { minimum_held = tt; maximum_held = tt; minimum = between tt; maximum = between tt }
 
 usual_large : Between (decimal 15 10) (decimal 15 10) (decimal 10 1)
 unfolding round le lt eq
-usual_large = record { from_low = tt; to_high = tt }
+usual_large = between tt
 
 pub ends_finite : Finite (neg (decimal 16 1)) × Finite (decimal 16 1) × Finite (neg (decimal 512 1)) × Finite (decimal 512 1)
 unfolding round neg
@@ -107,10 +103,12 @@ bounds =
       outputs = λ start r. grown_outputs (usual_size start r) (usual_flows start r) Dampers.usual_size usual_large;
       every_number = λ start r. grown_numbers (usual_size start r) (usual_flows start r) Dampers.usual_size usual_large ends_finite.0 ends_finite.1;
       every_output = λ start r ticks k output e.
-          output_numbers (decimal 15 10) (maximum_finite (usual_size start r) (usual_flows start r)) output (grown_outputs (usual_size start r) (usual_flows start r) Dampers.usual_size usual_large ticks k output e);
+          output_numbers (decimal 15 10) (maximum_finite (usual_size start r) (usual_flows start r)) output
+          (grown_outputs (usual_size start r) (usual_flows start r) Dampers.usual_size usual_large ticks k output e);
       other_integrators = λ c b. grown_integrators c (flows_of_built c b) any_size (flows_of_built c b).maximum;
       other_outputs = λ c b. grown_outputs c (flows_of_built c b) any_size (flows_of_built c b).maximum;
       other_every_number = λ c b. grown_numbers c (flows_of_built c b) any_size (flows_of_built c b).maximum ends_finite.2 ends_finite.3;
       other_every_output = λ c b ticks k output e.
-          output_numbers c.design_cooling_maximum_flow (maximum_finite c (flows_of_built c b)) output (grown_outputs c (flows_of_built c b) any_size (flows_of_built c b).maximum ticks k output e);
+          output_numbers c.design_cooling_maximum_flow (maximum_finite c (flows_of_built c b)) output
+          (grown_outputs c (flows_of_built c b) any_size (flows_of_built c b).maximum ticks k output e);
     }

@@ -1,6 +1,6 @@
 -- The CO2 loop of the ventilation setpoints: its line runs from 200 ppm below the setpoint to the setpoint, and rounding does not close that band, so the line's divisor
 -- is well above 0. Below 200 ppm the ends of two pieces show it. From there on the setpoint lies between two whole numbers, on which f64 arithmetic is exact. Assumes nothing.
-use Rattle.std.proofs.Common.{refl, ℕ, ◌+◌, ◌-◌, ◌*◌, ◌/◌, ◌<◌, ◌≤◌, true, false, T, ◌⊎◌, inl, inr, ℤ, pos, sym, subst, arith, div-mul-le_self, div-lt_iff_lt-mul, lt_of_mul-lt-mul_right, lt→ltb, lit≤}
+use Rattle.std.proofs.Common.{refl, ℕ, ◌+◌, ◌-◌, ◌*◌, ◌/◌, ◌<◌, ◌≤◌, true, false, T, inl, inr, ℤ, pos, sym, subst, arith, div-mul-le_self, div-lt_iff_lt-mul, lt_of_mul-lt-mul_right, lt→ltb, lit≤}
 use lib.Ieee.{Float, nan, inf, fin, binary64, up, down, round, neg, add, sub, mul, div, lt, eq, le}
 use lib.Ieee.Fits.{down_pos}
 use Rattle.std.proofs.lemmas.Float.{le_trans, le_of_lt, lt_of_le_of_lt, lt_of_lt_of_le}
@@ -9,9 +9,9 @@ use Rattle.f64_helpers.specs.Ranges.{Between, Finite}
 use Rattle.f64_helpers.specs.Seconds.{Whole}
 use Rattle.f64_helpers.proofs.Order.{fractions}
 use Rattle.f64_helpers.proofs.Monotone.{sub_mono}
-use Rattle.f64_helpers.proofs.WholeSeconds.{sub_whole, lt_whole}
+use Rattle.f64_helpers.proofs.WholeSeconds.{whole_finite, sub_whole, lt_whole}
 use Rattle.f64_helpers.proofs.Times.{at_most_by, at_most_whole, decimal_whole}
-use Rattle.f64_helpers.proofs.Intervals.{finite_between, at_most_or_least, add_in, sub_in, mul_in, mul_in_turned, div_in}
+use Rattle.f64_helpers.proofs.Intervals.{finite_between, cut, add_in, sub_in, mul_in, mul_in_turned, div_in}
 use Rattle.cdl_recurrences.specs.CdlRecurrences.{clamp, buildings_line}
 use Rattle.cdl_recurrences.proofs.Ranges.{clamp_in}
 use Rattle.bounds.specs.Limits.{HIGHEST_CO2}
@@ -55,11 +55,6 @@ whole n = fin false n (pos 0)
 
 whole_itself : (n : ℕ) → Whole (whole n) n
 whole_itself n = (refl, λ q. absurd q)
-
-whole_finite : (x : Float) (n : ℕ) → Whole x n → Finite x
-whole_finite nan n v = v
-whole_finite (inf s) n v = v
-whole_finite (fin s m e) n v = tt
 
 within_whole : {a x b : Float} {p q : ℕ} → Whole a p → Whole b q → Between a x b → 100 ≤ p → q ≤ 300 → Between (decimal 100 1) x (decimal 300 1)
 within_whole {a} {x} {b} {p} {q} v w r h k =
@@ -174,11 +169,6 @@ module _ (x : Float) (r : Around x) where
   from_200_band = record { below = low_below; wide = within_whole width_from_whole width_to_whole width_in (omega (arith, r.from_200)) (omega (arith, r.from_200)) }
 
 -- ---- from 0 to 10,000 ppm
--- either end of a range cut at k
-cut : {low x high : Float} (k : Float) → Finite low → Finite high → Finite k → Between low x high → Between low x k ⊎ Between k x high
-cut {low} {x} {high} k f g K b =
-    elim (at_most_or_least x k (finite_between f g b) K) [ inl h ↦ inl (record { from_low = b.from_low; to_high = h }) | inr h ↦ inr (record { from_low = h; to_high = b.to_high }) ]
-
 band_of : (setpoint : Float) → Between zero setpoint HIGHEST_CO2 → Band setpoint
 unfolding round
 band_of setpoint s = elim (cut (decimal 100 1) tt tt tt s) [

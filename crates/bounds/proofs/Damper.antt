@@ -1,18 +1,16 @@
 -- The damper keeps its ranges over an accepted tick: the airflow setpoint lies from 0 to the cooling maximum, and the integrator in its range, which the box's size decides. Assumes nothing.
-use Rattle.std.proofs.Common.{◌≡◌, refl, ℕ, zero as none, suc, ◌*◌, Bool, true, false, not, ◌&&◌, T, sym, subst, ℤ, pos, negsuc, if◌then◌else◌, Some, Option, eqb→eq, mul_comm, one-mul, mul-one, mul-pos, zero-lt-suc, ◌∙◌}
+use Rattle.std.proofs.Common.{refl, ℕ, Bool, true, false, not, ◌&&◌, T, sym, subst, ℤ, pos, negsuc, if◌then◌else◌, Some, Option, eqb→eq}
 use Rattle.std.specs.Int.Signed.{le_z}
-use lib.Ieee.{Float, fin, binary64, up, down, round, neg, add, sub, mul, div, lt, eq, le}
-use lib.Ieee.Fits.{up_pos, down_pos, and_l, and_r}
-use lib.Ieee.Scale.{round_same}
-use Rattle.std.proofs.lemmas.Float.{le_trans, lt_of_lt_of_le}
-use Rattle.f64_helpers.specs.F64.{◌⊕◌, ◌⊖◌, ◌⊗◌, ◌⊘◌, ◌<ᶠ◌, ◌≤ᶠ◌, decimal, zero}
+use lib.Ieee.{Float, round, neg, add, sub, mul, div, lt, eq, le}
+use Rattle.std.proofs.lemmas.Float.{le_trans}
+use Rattle.f64_helpers.specs.F64.{◌⊕◌, ◌⊖◌, ◌⊗◌, ◌⊘◌, ◌≤ᶠ◌, decimal, zero, ◌<ᶠ◌}
 use Rattle.f64_helpers.specs.Integers.{◌==ᶻ◌}
-use Rattle.f64_helpers.specs.Ranges.{Between, Finite}
-use Rattle.f64_helpers.proofs.Intervals.{finite_between, add_in, sub_in, mul_in_turned, div_in, if_in}
-use Rattle.f64_helpers.proofs.Monotone.{div_mono, div_is, above_zero}
+use Rattle.f64_helpers.specs.Ranges.{Between, Finite, is_finite}
+use Rattle.f64_helpers.proofs.Intervals.{finite_between, add_in, sub_in, mul_in_turned, div_in, if_in, ends, inside, around_zero, between}
+use Rattle.f64_helpers.proofs.Monotone.{div_mono, self_quotient}
 use Rattle.box_choices.specs.declared.Choices.{Choices}
 use Rattle.cdl_recurrences.specs.CdlRecurrences.{buildings_line, clamp, greater_hysteretic}
-use Rattle.cdl_recurrences.proofs.Ranges.{clamp_unit}
+use Rattle.cdl_recurrences.proofs.Ranges.{clamp_unit, unit_zero, unit_one}
 use Rattle.cooling_only_controller_conditioning.specs.Conditioning.{active_airflow}
 use Rattle.cooling_only_controller_airflow.specs.Airflow.{damper, TEMPERATURE_HYSTERESIS}
 use Rattle.cooling_only_controller_airflow.specs.declared.DamperInput.{DamperInput}
@@ -21,84 +19,69 @@ use Rattle.cooling_only_controller_airflow.specs.declared.DamperOutput.{DamperOu
 use Rattle.cooling_only_controller_timing.specs.declared.Step.{Step}
 use Rattle.bounds.specs.Limits.{LONGEST_STEP, HIGHEST_FLOW, DAMPER_GAIN, DAMPER_INTEGRAL_TIME, next_integrator}
 use Rattle.bounds.specs.Kept.{KeptDamper}
-use Rattle.bounds.proofs.Pi.{damper_next, any_damper_next}
+use Rattle.cooling_only_controller_timing.specs.Timing.{step_seconds}
+use Rattle.bounds.proofs.PiRange.{Tables, between_ends}
+use Rattle.bounds.proofs.Pi.{damper_tables, any_damper_tables}
 use Rattle.bounds.proofs.Timing.{Accepted}
 use Rattle.bounds.proofs.Loops.{dt_in}
-use Rattle.bounds.proofs.Flows.{FlowsIn, Flow, no_flow, chosen_flow, flow_line, at_minimum, at_maximum, maximum_finite}
-
--- ---- a number over itself
-
-over_itself : (n : ℕ) (d : ℤ) → div binary64 (fin false (suc n) d) (fin false (suc n) d) ≡ decimal 1 1
-over_itself n d =
-    div_is false (suc n) d n d
-    ∙ round_same binary64 false (suc n * up d * down d) (down d * (suc n * up d)) 1 1 (mul-pos (down_pos d) (mul-pos (zero-lt-suc n) (up_pos d))) (zero-lt-suc none) (mul-one (suc n * up d * down d) ∙ mul_comm (suc n * up d) (down d) ∙ sym (one-mul (down d * (suc n * up d))))
-
-self_quotient : (x : Float) → Finite x → T (zero <ᶠ x) → x ⊘ x ≡ decimal 1 1
-self_quotient x f h = let a = above_zero x f h in subst (λ (x : Float). x ⊘ x ≡ decimal 1 1) (sym a.is) (over_itself a.size a.power)
+use Rattle.bounds.proofs.Flows.{FlowsIn, Flow, no_flow, chosen_flow, flow_line, at_minimum, at_maximum, maximum_finite, maximum_above_zero}
 
 -- ---- what a box's size decides: the cooling maximum is at least `smallest`
 
 pub record Size (smallest error end : Float) : Type 0 where
   pub error_in : {setpoint flow maximum : Float} → Between zero setpoint (decimal 1 1) → Between (neg HIGHEST_FLOW) flow HIGHEST_FLOW → Between smallest maximum (decimal 10 1)
       → Between (neg error) (setpoint ⊖ flow ⊘ maximum) error
-  pub next_in : {integrator e dt : Float} → Between (neg error) e error → Between (neg end) integrator end → Between zero dt LONGEST_STEP
+  pub next_in : (integrator e dt : Float) → Between (neg error) e error → Between (neg end) integrator end → Between zero dt LONGEST_STEP
       → Between (neg end) (next_integrator DAMPER_GAIN DAMPER_INTEGRAL_TIME integrator e dt) end
   pub reset_in : {e : Float} → Between (neg error) e error → Between (neg end) (decimal 1 100 ⊖ DAMPER_GAIN ⊗ e) end
   pub unlimited_finite : {integrator e : Float} → Between (neg error) e error → Between (neg end) integrator end → Finite (DAMPER_GAIN ⊗ e ⊕ integrator)
   pub end_from_zero : Between (neg end) zero end
 
-usual_error : {setpoint flow maximum : Float} → Between zero setpoint (decimal 1 1) → Between (neg HIGHEST_FLOW) flow HIGHEST_FLOW → Between (decimal 15 10) maximum (decimal 10 1)
-    → Between (neg (decimal 8 1)) (setpoint ⊖ flow ⊘ maximum) (decimal 8 1)
-unfolding round neg add sub div le lt eq
-usual_error s f m = let q : Between (neg (decimal 7 1)) _ (decimal 7 1) = div_in f m tt in sub_in s q tt
+-- Tests of the ends, for the flow over the maximum within `quotient`, the proportional part within `part`, and its sum with the integrator within `sum`. Of literals each computes.
+record Tests (smallest quotient error part sum end : Float) : Type 0 where
+  flow : T (ends (neg HIGHEST_FLOW) HIGHEST_FLOW && ends smallest (decimal 10 1) && (around_zero (neg HIGHEST_FLOW) HIGHEST_FLOW && (zero <ᶠ smallest))
+      && inside (neg quotient) (neg HIGHEST_FLOW ⊘ smallest) (HIGHEST_FLOW ⊘ smallest) quotient)
+  difference : T (ends zero (decimal 1 1) && ends (neg quotient) quotient && inside (neg error) (zero ⊖ quotient) (decimal 1 1 ⊖ neg quotient) error)
+  gain : T ((zero ≤ᶠ DAMPER_GAIN) && (DAMPER_GAIN ≤ᶠ DAMPER_GAIN))
+  proportional : T (ends (neg error) error && is_finite DAMPER_GAIN && around_zero (neg error) error && inside (neg part) (neg error ⊗ DAMPER_GAIN) (error ⊗ DAMPER_GAIN) part)
+  hundredth : T ((decimal 1 100 ≤ᶠ decimal 1 100) && (decimal 1 100 ≤ᶠ decimal 1 100))
+  reset : T (ends (decimal 1 100) (decimal 1 100) && ends (neg part) part && inside (neg end) (decimal 1 100 ⊖ part) (decimal 1 100 ⊖ neg part) end)
+  unlimited : T (ends (neg part) part && ends (neg end) end && inside (neg sum) (neg part ⊕ neg end) (part ⊕ end) sum)
+  sum_finite : Finite (neg sum) × Finite sum
+  end_around : T ((neg end ≤ᶠ zero) && (zero ≤ᶠ end))
 
-gain_in : Between zero DAMPER_GAIN DAMPER_GAIN
-unfolding round le lt eq
-gain_in = record { from_low = tt; to_high = tt }
+-- a size, by its tests and by the tables of its integrator
+size : {smallest quotient error part sum end wide : Float} → Tests smallest quotient error part sum end → Tables DAMPER_GAIN DAMPER_INTEGRAL_TIME error LONGEST_STEP end wide → Size smallest error end
+size {smallest} {quotient} {error} {part} {sum} {end} t tables = record {
+  error_in = λ s f m. sub_in s (over f m) t.difference;
+  next_in = between_ends tables;
+  reset_in = λ b. sub_in (between t.hundredth) (proportional_in b) t.reset;
+  unlimited_finite = λ b i. finite_between t.sum_finite.0 t.sum_finite.1 (total b i);
+  end_from_zero = between t.end_around;
+}
+  where
+    over : {flow maximum : Float} → Between (neg HIGHEST_FLOW) flow HIGHEST_FLOW → Between smallest maximum (decimal 10 1) → Between (neg quotient) (flow ⊘ maximum) quotient
+    over f m = div_in f m t.flow
 
-usual_reset : {e : Float} → Between (neg (decimal 8 1)) e (decimal 8 1) → Between (neg (decimal 16 1)) (decimal 1 100 ⊖ DAMPER_GAIN ⊗ e) (decimal 16 1)
-unfolding round neg add sub mul le lt eq
-usual_reset e =
-    let p : Between (neg (decimal 4 1)) _ (decimal 4 1) = mul_in_turned e gain_in tt in
-    let h : Between (decimal 1 100) (decimal 1 100) (decimal 1 100) = record { from_low = tt; to_high = tt } in
-    sub_in h p tt
+    proportional_in : {e : Float} → Between (neg error) e error → Between (neg part) (DAMPER_GAIN ⊗ e) part
+    proportional_in b = mul_in_turned b (between t.gain) t.proportional
 
-usual_unlimited : {integrator e : Float} → Between (neg (decimal 8 1)) e (decimal 8 1) → Between (neg (decimal 16 1)) integrator (decimal 16 1) → Finite (DAMPER_GAIN ⊗ e ⊕ integrator)
-unfolding round neg add sub mul le lt eq
-usual_unlimited {integrator} {e} b i =
-    let p : Between (neg (decimal 4 1)) (DAMPER_GAIN ⊗ e) (decimal 4 1) = mul_in_turned b gain_in tt in
-    let u : Between (neg (decimal 20 1)) (DAMPER_GAIN ⊗ e ⊕ integrator) (decimal 20 1) = add_in p i tt in
-    finite_between tt tt u
+    total : {integrator e : Float} → Between (neg error) e error → Between (neg end) integrator end → Between (neg sum) (DAMPER_GAIN ⊗ e ⊕ integrator) sum
+    total b i = add_in (proportional_in b) i t.unlimited
 
-end_around : {end : Float} → T ((neg end ≤ᶠ zero) && (zero ≤ᶠ end)) → Between (neg end) zero end
-end_around {end} h = record { from_low = and_l (neg end ≤ᶠ zero) (zero ≤ᶠ end) h; to_high = and_r (neg end ≤ᶠ zero) (zero ≤ᶠ end) h }
+usual_tests : Tests (decimal 15 10) (decimal 7 1) (decimal 8 1) (decimal 4 1) (decimal 20 1) (decimal 16 1)
+unfolding round neg add sub mul div lt eq le
+usual_tests = assumption tt
 
 pub usual_size : Size (decimal 15 10) (decimal 8 1) (decimal 16 1)
-unfolding round neg le lt eq
-usual_size = record { error_in = usual_error; next_in = damper_next; reset_in = usual_reset; unlimited_finite = usual_unlimited; end_from_zero = end_around tt }
+usual_size = size usual_tests damper_tables
 
-any_error : {setpoint flow maximum : Float} → Between zero setpoint (decimal 1 1) → Between (neg HIGHEST_FLOW) flow HIGHEST_FLOW → Between (decimal 1 10) maximum (decimal 10 1)
-    → Between (neg (decimal 101 1)) (setpoint ⊖ flow ⊘ maximum) (decimal 101 1)
-unfolding round neg add sub div le lt eq
-any_error s f m = let q : Between (neg (decimal 100 1)) _ (decimal 100 1) = div_in f m tt in sub_in s q tt
-
-any_reset : {e : Float} → Between (neg (decimal 101 1)) e (decimal 101 1) → Between (neg (decimal 512 1)) (decimal 1 100 ⊖ DAMPER_GAIN ⊗ e) (decimal 512 1)
-unfolding round neg add sub mul le lt eq
-any_reset e =
-    let p : Between (neg (decimal 51 1)) _ (decimal 51 1) = mul_in_turned e gain_in tt in
-    let h : Between (decimal 1 100) (decimal 1 100) (decimal 1 100) = record { from_low = tt; to_high = tt } in
-    sub_in h p tt
-
-any_unlimited : {integrator e : Float} → Between (neg (decimal 101 1)) e (decimal 101 1) → Between (neg (decimal 512 1)) integrator (decimal 512 1) → Finite (DAMPER_GAIN ⊗ e ⊕ integrator)
-unfolding round neg add sub mul le lt eq
-any_unlimited {integrator} {e} b i =
-    let p : Between (neg (decimal 51 1)) (DAMPER_GAIN ⊗ e) (decimal 51 1) = mul_in_turned b gain_in tt in
-    let u : Between (neg (decimal 600 1)) (DAMPER_GAIN ⊗ e ⊕ integrator) (decimal 600 1) = add_in p i tt in
-    finite_between tt tt u
+any_tests : Tests (decimal 1 10) (decimal 100 1) (decimal 101 1) (decimal 51 1) (decimal 600 1) (decimal 512 1)
+unfolding round neg add sub mul div lt eq le
+any_tests = assumption tt
 
 pub any_size : Size (decimal 1 10) (decimal 101 1) (decimal 512 1)
-unfolding round neg le lt eq
-any_size = record { error_in = any_error; next_in = any_damper_next; reset_in = any_reset; unlimited_finite = any_unlimited; end_from_zero = end_around tt }
+any_size = size any_tests any_damper_tables
 
 -- ---- the active airflow: its minimum is at most its maximum
 
@@ -129,18 +112,16 @@ module _ (choices : Choices) (f : FlowsIn choices) {occupied_minimum : Float} (o
 
 module _ (choices : Choices) (f : FlowsIn choices) (s : DamperState) (input : DamperInput)
     (minimum : Flow choices.design_cooling_maximum_flow input.active_minimum_flow) (maximum : Flow choices.design_cooling_maximum_flow input.active_cooling_maximum_flow)
-    (order : T (input.active_minimum_flow ≤ᶠ input.active_cooling_maximum_flow)) (signal : Between zero input.cooling_loop (decimal 1 1)) (flow : Between (neg HIGHEST_FLOW) input.discharge_airflow HIGHEST_FLOW)
-    {last : Option Float} {t : Float} (a : Accepted last t) {smallest error end : Float} (z : Size smallest error end) (large : Between smallest choices.design_cooling_maximum_flow (decimal 10 1)) (k : KeptDamper last end s) where
+    (order : T (input.active_minimum_flow ≤ᶠ input.active_cooling_maximum_flow)) (signal : Between zero input.cooling_loop (decimal 1 1))
+    (flow : Between (neg HIGHEST_FLOW) input.discharge_airflow HIGHEST_FLOW) {last : Option Float} {t : Float} (a : Accepted last t)
+    {smallest error end : Float} (z : Size smallest error end) (large : Between smallest choices.design_cooling_maximum_flow (decimal 10 1)) (k : KeptDamper last end s) where
   abbrev step : Step DamperState DamperOutput
   step = damper s t input choices
 
-  signal_finite : Finite input.cooling_loop
-  unfolding round
-  signal_finite = finite_between tt tt signal
-
   -- the setpoint before the override
   mapped_in : Flow choices.design_cooling_maximum_flow (buildings_line zero input.active_minimum_flow (decimal 1 1) input.active_cooling_maximum_flow input.cooling_loop)
-  mapped_in = flow_line choices f minimum maximum input.cooling_loop signal_finite order
+  unfolding round
+  mapped_in = flow_line choices f minimum maximum input.cooling_loop (finite_between tt tt signal) order
 
   pub airflow_setpoint_in : Flow choices.design_cooling_maximum_flow step.output.airflow_setpoint
   unfolding damper
@@ -149,7 +130,8 @@ module _ (choices : Choices) (f : FlowsIn choices) (s : DamperState) (input : Da
       let warm = greater_hysteretic input.supply_air_temperature input.zone_temperature TEMPERATURE_HYSTERESIS s.supply_warm in
       let mapped = buildings_line zero input.active_minimum_flow (decimal 1 1) input.active_cooling_maximum_flow input.cooling_loop in
       let active : Flow M (if warm then input.active_minimum_flow else mapped) = chosen_flow choices f warm input.active_minimum_flow mapped minimum mapped_in in
-      let base : Flow M (if input.zone_state ==ᶻ 3 then if warm then input.active_minimum_flow else mapped else input.active_minimum_flow) = chosen_flow choices f (input.zone_state ==ᶻ 3) _ input.active_minimum_flow active minimum in
+      let base : Flow M (if input.zone_state ==ᶻ 3 then if warm then input.active_minimum_flow else mapped else input.active_minimum_flow) =
+      chosen_flow choices f (input.zone_state ==ᶻ 3) _ input.active_minimum_flow active minimum in
       let third = chosen_flow choices f (input.airflow_override_index ==ᶻ 3) choices.design_minimum_flow _ (at_minimum choices f) base in
       let second = chosen_flow choices f (input.airflow_override_index ==ᶻ 2) M _ (at_maximum choices f) third in
       chosen_flow choices f (input.airflow_override_index ==ᶻ 1) zero _ (no_flow choices f) second
@@ -161,19 +143,16 @@ module _ (choices : Choices) (f : FlowsIn choices) (s : DamperState) (input : Da
       let wide : Between zero x (decimal 10 1) = record { from_low = b.from_low; to_high = le_trans x choices.design_cooling_maximum_flow (decimal 10 1) b.to_high f.maximum.to_high } in
       div_in wide f.maximum tt
 
-  maximum_above_zero : T (zero <ᶠ choices.design_cooling_maximum_flow)
-  unfolding round lt
-  maximum_above_zero = lt_of_lt_of_le zero (decimal 1 10) choices.design_cooling_maximum_flow tt f.maximum.from_low
-
   pub normalized_in : Between zero (step.output.airflow_setpoint ⊘ choices.design_cooling_maximum_flow) (decimal 1 1)
   normalized_in =
       let M = choices.design_cooling_maximum_flow in
       let b = airflow_setpoint_in.range in
       let F = maximum_finite choices f in
+      let above = maximum_above_zero choices f in
       record {
         from_low = (quotient_from_zero b).from_low;
-        to_high = subst (λ (z : Float). T (step.output.airflow_setpoint ⊘ M ≤ᶠ z)) (self_quotient M F maximum_above_zero)
-            (div_mono step.output.airflow_setpoint M M (finite_between tt F b) F F maximum_above_zero b.to_high);
+        to_high = subst (λ (z : Float). T (step.output.airflow_setpoint ⊘ M ≤ᶠ z)) (self_quotient M F above)
+            (div_mono step.output.airflow_setpoint M M (finite_between tt F b) F F above b.to_high);
       }
 
   -- ---- the PI
@@ -183,21 +162,19 @@ module _ (choices : Choices) (f : FlowsIn choices) (s : DamperState) (input : Da
   error_range : Between (neg error) error_of error
   error_range = z.error_in normalized_in flow large
 
+  -- the PI before its limits
+  pub unlimited_finite : Finite (DAMPER_GAIN ⊗ error_of ⊕ s.integrator)
+  unlimited_finite = z.unlimited_finite error_range k.integrator
+
   pid_in : Between zero (clamp (DAMPER_GAIN ⊗ error_of ⊕ s.integrator) zero (decimal 1 1)) (decimal 1 1)
-  pid_in = clamp_unit (DAMPER_GAIN ⊗ error_of ⊕ s.integrator) (z.unlimited_finite error_range k.integrator)
-
-  command_zero : Between zero zero (decimal 1 1)
-  unfolding round le lt eq
-  command_zero = record { from_low = tt; to_high = tt }
-
-  command_one : Between zero (decimal 1 1) (decimal 1 1)
-  unfolding round le lt eq
-  command_one = record { from_low = tt; to_high = tt }
+  pid_in = clamp_unit (DAMPER_GAIN ⊗ error_of ⊕ s.integrator) unlimited_finite
 
   pub damper_command_in : Between zero step.output.damper_command (decimal 1 1)
   unfolding damper
-  damper_command_in = if_in _ zero _ command_zero (if_in _ (decimal 1 1) _ command_one pid_in)
+  damper_command_in = if_in _ zero _ unit_zero (if_in _ (decimal 1 1) _ unit_one pid_in)
 
   pub kept_damper : KeptDamper (Some t) end step.state
   unfolding damper next_integrator
-  kept_damper = record { integrator = if_in (input.supply_fan_status && not s.previous_fan) _ _ (z.reset_in error_range) (z.next_in error_range k.integrator (dt_in a s.previous_time k.previous_time)); previous_time = refl }
+  kept_damper =
+      let next = z.next_in s.integrator error_of (step_seconds s.previous_time t) error_range k.integrator (dt_in a s.previous_time k.previous_time) in
+      record { integrator = if_in (input.supply_fan_status && not s.previous_fan) _ _ (z.reset_in error_range) next; previous_time = refl }

@@ -2,11 +2,11 @@
 use Rattle.std.proofs.Common.{Bool, true, false, T, if◌then◌else◌}
 use lib.Ieee.{Float, binary64, round, neg, add, div, lt, eq, le, fits}
 use lib.Ieee.Fits.{add-fits}
-use Rattle.std.proofs.lemmas.Float.{le_refl, le_trans}
-use Rattle.f64_helpers.specs.F64.{◌⊕◌, ◌⊖◌, ◌≤ᶠ◌, decimal, zero}
+use Rattle.std.proofs.lemmas.Float.{le_refl, le_trans, lt_of_lt_of_le}
+use Rattle.f64_helpers.specs.F64.{◌⊕◌, ◌⊖◌, ◌≤ᶠ◌, decimal, zero, ◌<ᶠ◌}
 use Rattle.f64_helpers.specs.Integers.{◌==ᶻ◌}
 use Rattle.f64_helpers.specs.Ranges.{Between, Finite}
-use Rattle.f64_helpers.proofs.Intervals.{finite_between, finite_number, add_in, div_in, if_in}
+use Rattle.f64_helpers.proofs.Intervals.{finite_between, finite_number, add_in, div_in, if_in, between}
 use Rattle.box_choices.specs.declared.Choices.{Choices}
 use Rattle.cdl_recurrences.specs.CdlRecurrences.{buildings_line}
 use Rattle.cdl_recurrences.proofs.UnitLine.{line_in}
@@ -36,6 +36,10 @@ module _ (choices : Choices) (f : FlowsIn choices) where
   pub maximum_finite : Finite M
   unfolding round
   maximum_finite = finite_between tt tt f.maximum
+
+  pub maximum_above_zero : T (zero <ᶠ M)
+  unfolding round lt
+  maximum_above_zero = lt_of_lt_of_le zero (decimal 1 10) M tt f.maximum.from_low
 
   pub maximum_from_zero : Between zero M M
   unfolding round le lt eq
@@ -76,7 +80,7 @@ module _ (choices : Choices) (f : FlowsIn choices) where
     corrected_finite : Finite corrected
     unfolding round neg le lt eq
     corrected_finite =
-        let none : Between (neg (decimal 1000 1)) zero (decimal 1000 1) = record { from_low = tt; to_high = tt } in
+        let none : Between (neg (decimal 1000 1)) zero (decimal 1000 1) = between tt in
         finite_between tt tt (if_in (input.operating_mode ==ᶻ 1) _ zero (co2_loop_in _ _ setpoint co2) none)
 
     pub occupied_minimum_in : Flow M out.occupied_minimum_flow
@@ -97,12 +101,12 @@ module _ (choices : Choices) (f : FlowsIn choices) where
 
     pub area_in : Between zero out.adjusted_area_flow (decimal 6 1000)
     unfolding setpoints round le lt eq
-    area_in = let all : Between zero AREA_BREATHING_FLOW (decimal 6 1000) = record { from_low = tt; to_high = tt } in if_in _ zero _ (nothing tt) (if_in _ zero _ (nothing tt) all)
+    area_in = let all : Between zero AREA_BREATHING_FLOW (decimal 6 1000) = between tt in if_in _ zero _ (nothing tt) (if_in _ zero _ (nothing tt) all)
 
     pub minimum_outdoor_in : Between zero out.minimum_outdoor_airflow (decimal 1375 100000)
     unfolding setpoints round add div le lt eq
     minimum_outdoor_in =
         let sum : Between zero (out.adjusted_population_flow ⊕ out.adjusted_area_flow) (decimal 11 1000) = add_in population_in area_in tt in
-        let cooling : Between (decimal 8 10) COOLING_DISTRIBUTION_EFFECTIVENESS (decimal 1 1) = record { from_low = tt; to_high = tt } in
-        let heating : Between (decimal 8 10) HEATING_DISTRIBUTION_EFFECTIVENESS (decimal 1 1) = record { from_low = tt; to_high = tt } in
+        let cooling : Between (decimal 8 10) COOLING_DISTRIBUTION_EFFECTIVENESS (decimal 1 1) = between tt in
+        let heating : Between (decimal 8 10) HEATING_DISTRIBUTION_EFFECTIVENESS (decimal 1 1) = between tt in
         div_in sum (if_in _ COOLING_DISTRIBUTION_EFFECTIVENESS HEATING_DISTRIBUTION_EFFECTIVENESS cooling heating) tt

@@ -1,9 +1,8 @@
 -- What a box keeps (Kept.antt): a fresh box has it, an accepted tick keeps it, and with it the outputs lie in their ranges. Assumes nothing.
 use Rattle.std.proofs.Common.{refl, T, Some, None, lit≤}
 use lib.Ieee.{Float, round, neg, lt, eq, le}
-use Rattle.f64_helpers.specs.F64.{◌⊘◌, ◌≤ᶠ◌, decimal, zero}
+use Rattle.f64_helpers.specs.F64.{◌⊘◌, ◌≤ᶠ◌, decimal, zero, ◌⊕◌, ◌⊖◌, ◌⊗◌}
 use Rattle.f64_helpers.specs.Ranges.{Between, Finite}
-use Rattle.f64_helpers.proofs.Intervals.{finite_between}
 use Rattle.f64_helpers.proofs.WholeSeconds.{zero_whole}
 use Rattle.box_choices.specs.declared.Choices.{Choices}
 use Rattle.cooling_only_controller_conditioning.specs.Conditioning.{active_airflow, setpoints, control_loops, zone_states}
@@ -23,7 +22,7 @@ use Rattle.air_box.specs.Demand1.{AllYes}
 use Rattle.air_box.specs.Demand2.{controller_step_of}
 use Rattle.air_box.specs.declared.Tick.{Tick}
 use Rattle.air_box.specs.declared.AirBox.{AirBox}
-use Rattle.bounds.specs.Limits.{HOTTEST, HIGHEST_FLOW}
+use Rattle.bounds.specs.Limits.{HOTTEST, HIGHEST_FLOW, DAMPER_GAIN}
 use Rattle.bounds.specs.Kept.{KeptGrid, KeptControlLoops, KeptDamper, KeptBox}
 use Rattle.bounds.specs.Bounds.{OutputsInBounds}
 use Rattle.bounds.proofs.Accepted.{Readings, readings_in, accepted}
@@ -31,8 +30,11 @@ use Rattle.bounds.proofs.Timing.{Accepted, fresh_kept, lengths}
 use Rattle.bounds.proofs.Suppression.{kept_time_suppression}
 use Rattle.bounds.proofs.Loops.{kept_control_loops}
 use Rattle.bounds.proofs.Flows.{FlowsIn, Flow, maximum_from_zero, occupied_minimum_in, population_in, area_in, minimum_outdoor_in}
-use Rattle.bounds.proofs.Damper.{Size, active_in, active_maximum_in, active_order, airflow_setpoint_in, normalized_in, damper_command_in, kept_damper}
+use Rattle.bounds.proofs.Damper.{Size, active_in, active_maximum_in, active_order, airflow_setpoint_in, damper_command_in, kept_damper, unlimited_finite}
 use Rattle.bounds.proofs.Requests.{kept_system_requests, kept_alarms}
+use Rattle.f64_helpers.proofs.Intervals.{between}
+use Rattle.cooling_only_controller.specs.ControllerPieces.{setpoint_input, damper_input}
+use Rattle.cdl_recurrences.proofs.Ranges.{unit_zero}
 
 -- ---- a fresh box
 
@@ -43,11 +45,10 @@ module _ (choices : Choices) (f : FlowsIn choices) {smallest error end : Float} 
   pub fresh_box_kept : KeptBox end (unticked choices)
   unfolding round neg le lt eq
   fresh_box_kept =
-      let hot : Between zero zero HOTTEST = record { from_low = tt; to_high = tt } in
-      let signal : Between zero zero (decimal 1 1) = record { from_low = tt; to_high = tt } in
-      let flow : Between (neg HIGHEST_FLOW) zero HIGHEST_FLOW = record { from_low = tt; to_high = tt } in
+      let hot : Between zero zero HOTTEST = between tt in
+      let flow : Between (neg HIGHEST_FLOW) zero HIGHEST_FLOW = between tt in
       let setpoint : Between zero zero choices.design_cooling_maximum_flow = record { from_low = tt; to_high = (maximum_from_zero choices f).from_low } in
-      let loop : Between (neg (decimal 64 1)) zero (decimal 64 1) = record { from_low = tt; to_high = tt } in
+      let loop : Between (neg (decimal 64 1)) zero (decimal 64 1) = between tt in
       record {
         last_time = tt;
         time_suppression = record {
@@ -69,10 +70,10 @@ module _ (choices : Choices) (f : FlowsIn choices) {smallest error end : Float} 
           hot_three_delay = fresh_kept lengths.2;
           hot_two_delay = fresh_kept lengths.2;
           damper_delay = fresh_kept lengths.1;
-          cooling_sampler = record { grid = grid_fresh; held = signal };
+          cooling_sampler = record { grid = grid_fresh; held = unit_zero };
           setpoint_sampler = record { grid = grid_fresh; held = setpoint };
           discharge_sampler = record { grid = grid_fresh; held = flow };
-          damper_sampler = record { grid = grid_fresh; held = signal };
+          damper_sampler = record { grid = grid_fresh; held = unit_zero };
         };
         alarms = record {
           fan_armed = fresh_kept lengths.5;
@@ -102,37 +103,19 @@ module _ (box : AirBox) (f : FlowsIn box.choices) {smallest error end : Float} (
 
   -- what the stages are handed
   abbrev to_setpoints : SetpointInput
-  to_setpoints = record {
-    window_status = i.window_status;
-    occupancy_status = i.occupancy_status;
-    operating_mode = i.operating_mode;
-    co2_setpoint = i.co2_setpoint;
-    co2_concentration = i.co2_concentration;
-    zone_temperature = i.zone_temperature;
-    discharge_air_temperature = i.discharge_air_temperature;
-  }
+  to_setpoints = setpoint_input i
 
   abbrev occupied_minimum : Float
   occupied_minimum = (setpoints s.setpoints to_setpoints box.choices).output.occupied_minimum_flow
 
   abbrev to_damper : DamperInput
-  to_damper = record {
-    active_minimum_flow = (active_airflow i.operating_mode occupied_minimum box.choices).minimum;
-    supply_air_temperature = i.supply_air_temperature;
-    zone_temperature = i.zone_temperature;
-    cooling_loop = loops.output.cooling;
-    active_cooling_maximum_flow = (active_airflow i.operating_mode occupied_minimum box.choices).cooling_maximum;
-    zone_state = (zone_states s.zone_states loops.output.heating loops.output.cooling).output;
-    airflow_override_index = i.airflow_override_index;
-    supply_fan_status = i.supply_fan_status;
-    discharge_airflow = i.discharge_airflow;
-    damper_override_index = i.damper_override_index;
-  }
+  to_damper =
+      damper_input i loops.output (active_airflow i.operating_mode occupied_minimum box.choices) (zone_states s.zone_states loops.output.heating loops.output.cooling).output
 
   readings : Readings i
   readings = readings_in box.last_time k all
 
-  loops_kept : KeptControlLoops (Some k.t) loops.state × Between zero loops.output.cooling (decimal 1 1) × Between zero loops.output.heating (decimal 1 1)
+  pub loops_kept : KeptControlLoops (Some k.t) loops.state × Between zero loops.output.cooling (decimal 1 1) × Between zero loops.output.heating (decimal 1 1)
   loops_kept = kept_control_loops step_of s.control_loops kept.control_loops readings.cooling_setpoint readings.zone_temperature readings.heating_setpoint
 
   occupied_in : Flow box.choices.design_cooling_maximum_flow occupied_minimum
@@ -156,13 +139,11 @@ module _ (box : AirBox) (f : FlowsIn box.choices) {smallest error end : Float} (
   command_in : Between zero dampers.output.damper_command (decimal 1 1)
   command_in = damper_command_in box.choices f s.dampers to_damper minimum_in maximum_in order loops_kept.1 readings.discharge_airflow step_of z large kept.dampers
 
-  normalized_setpoint_in : Between zero (dampers.output.airflow_setpoint ⊘ box.choices.design_cooling_maximum_flow) (decimal 1 1)
-  normalized_setpoint_in = normalized_in box.choices f s.dampers to_damper minimum_in maximum_in order loops_kept.1 readings.discharge_airflow step_of z large kept.dampers
-
-  -- what the damper divides
-  pub normalized_setpoint_finite : Finite ((controller_step_of box k).output.airflow_setpoint ⊘ box.choices.design_cooling_maximum_flow)
-  unfolding controller_output round
-  normalized_setpoint_finite = finite_between tt tt normalized_setpoint_in
+  -- the damper's PI before its limits
+  pub damper_unlimited_finite :
+      let M = box.choices.design_cooling_maximum_flow in Finite (DAMPER_GAIN ⊗ ((controller_step_of box k).output.airflow_setpoint ⊘ M ⊖ i.discharge_airflow ⊘ M) ⊕ s.dampers.integrator)
+  unfolding controller_output
+  damper_unlimited_finite = unlimited_finite box.choices f s.dampers to_damper minimum_in maximum_in order loops_kept.1 readings.discharge_airflow step_of z large kept.dampers
 
   dampers_kept : KeptDamper (Some k.t) end dampers.state
   dampers_kept = kept_damper box.choices f s.dampers to_damper minimum_in maximum_in order loops_kept.1 readings.discharge_airflow step_of z large kept.dampers

@@ -12,7 +12,7 @@ pub mod Suppression
 pub mod Requests
 pub mod Accepted
 mod PublishedSame
-mod PublishedNumbers
+mod PublishedSampleIndex
 mod PublishedBlocks
 pub mod PublishedStages
 pub mod Signs

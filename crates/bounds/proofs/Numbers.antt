@@ -1,9 +1,9 @@
 -- What a box keeps is finite, each f64 by its name. Assumes nothing.
 use Rattle.std.proofs.Common.{◌≡◌, sym, subst, Some, None, Option}
-use lib.Ieee.{Float, nan, inf, fin, round, neg}
-use Rattle.f64_helpers.specs.Seconds.{IsTime}
+use lib.Ieee.{Float, round, neg}
 use Rattle.f64_helpers.specs.Ranges.{Finite}
 use Rattle.f64_helpers.proofs.Intervals.{finite_between}
+use Rattle.f64_helpers.proofs.WholeSeconds.{whole_finite}
 use Rattle.cooling_only_controller.specs.declared.ControllerOutput.{ControllerOutput}
 use Rattle.cooling_only_controller_timing.specs.declared.SamplerState.{SamplerState}
 use Rattle.cooling_only_controller_timing.specs.declared.UnitDelayState.{UnitDelayState}
@@ -16,21 +16,16 @@ use Rattle.bounds.specs.Bounds.{OutputsInBounds}
 use Rattle.bounds.proofs.Flows.{FlowsIn, maximum_finite}
 use Rattle.bounds.proofs.Timing.{Length, lengths}
 
-time_finite : (t : Float) → IsTime t → Finite t
-time_finite nan i = absurd i.0
-time_finite (inf s) i = absurd i.0
-time_finite (fin s m e) i = tt
-
 finite_if_present : (t : Option Float) → TimeIfPresent t → FiniteIfPresent t
 finite_if_present None i = tt
-finite_if_present (Some t) i = time_finite t i
+finite_if_present (Some t) i = whole_finite t _ i.0
 
 module _ {last : Option Float} (i : TimeIfPresent last) where
   sampler : {low high : Float} → Finite low → Finite high → {s : SamplerState} → KeptSampler last low high s → SamplerNumbers s
-  sampler f g k = record { t0 = time_finite _ k.grid.time; held = finite_between f g k.held }
+  sampler f g k = record { t0 = whole_finite _ _ k.grid.time.0; held = finite_between f g k.held }
 
   unit_delay : {low high : Float} → Finite low → Finite high → {s : UnitDelayState} → KeptUnitDelay last low high s → UnitDelayNumbers s
-  unit_delay f g k = record { t0 = time_finite _ k.grid.time; held = finite_between f g k.held; staged = finite_between f g k.staged }
+  unit_delay f g k = record { t0 = whole_finite _ _ k.grid.time.0; held = finite_between f g k.held; staged = finite_between f g k.staged }
 
   previous : {t : Option Float} → t ≡ last → FiniteIfPresent t
   previous e = subst FiniteIfPresent (sym e) (finite_if_present last i)

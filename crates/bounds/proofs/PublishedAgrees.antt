@@ -24,7 +24,7 @@ use Rattle.bounds.specs.PublishedAgrees.{decided_over, tick_over, LoopReadingsHe
 use Rattle.bounds.proofs.Accepted.{readings_in}
 use Rattle.bounds.proofs.Flows.{FlowsIn}
 use Rattle.bounds.proofs.Damper.{any_size}
-use Rattle.bounds.proofs.Bounds.{Keeps, flows_of, large_of, after_tick, grown_keeps, flows_of_built, ends_finite}
+use Rattle.bounds.proofs.Bounds.{Keeps, flows_of, large_of, after_tick, grown_keeps, flows_of_built}
 use Rattle.bounds.proofs.Signs.{signs_fresh, next_signs}
 use Rattle.bounds.proofs.PublishedBlocks.{todays_max, todays_min}
 use Rattle.bounds.proofs.PublishedSame.{same_text}
@@ -78,7 +78,7 @@ module _ (max min : Float → Float → Float) (rust_max : RustMax max) (rust_mi
   here box k h s =
       same_where (published max min) box k
       (λ all. published_agrees max min rust_max rust_min box k
-      (handed box (flows_of choices f any_size f.maximum box h.choices_kept) any_size (large_of choices f any_size f.maximum box h.choices_kept) (ends_finite.2, ends_finite.3) h.kept s k all))
+      (handed box (flows_of choices f any_size f.maximum box h.choices_kept) any_size (large_of choices f any_size f.maximum box h.choices_kept) h.kept s k all))
 
   night : (box : AirBox) (ticks : List Tick) → AllHeld ticks → Keeps choices (decimal 512 1) box → KeptSigns box.state → steps_by (tick_over (published max min)) box ticks ≡ steps box ticks
   night box [] a h s = refl

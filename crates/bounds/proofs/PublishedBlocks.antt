@@ -1,37 +1,52 @@
 -- The published forms of the helpers beside document 01's, at what a block is handed. `max` and `min` stand for any that Rust allows. Assumes nothing.
-use Rattle.std.proofs.Common.{◌≡◌, ℕ, zero, suc, ◌+◌, ◌-◌, ◌*◌, ◌/◌, ◌^◌, ◌<◌, ◌≤◌, Bool, true, false, cond, not, ◌&&◌, ◌||◌, T, eqb, ltb, ◌⊎◌, ℤ, pos, negsuc, sym, refl, ap, ◌∙◌, subst, inl, inr, ⊎_elim, Option, Some, None, ap₂, add-mul, one-mul, div-le_self, div-mul-le_self, zero-mul, mul-zero, mul-one, mul-pos, mul-le-mul_right, zero-lt-suc, add-zero, mul_assoc, mul_comm, mul_right_comm, true≢false, eqb→eq, T_not, arith, lit≤}
-use mathlib.Core.Bool.{beq}
-use native.Mathlib.Nat.{eq-zero-or-pos, mul-mul-mul_comm, lt-div-mul-add, le_trans as le_trans_nat, le_of_eq as le_of_eq_nat}
-use lib.Dec.{eqb-suc-zero}
-use Rattle.std.proofs.lemmas.Bool.{lt-ltb}
-use lib.Ieee.{Float, nan, inf, fin, binary64, low, up, down, level, unlike, round, sum, add, mul, lt, eq, le, is_nan, fits}
-use lib.Ieee.Fits.{and_l, and_r, down_pos, up_pos}
-use lib.Ieee.Scale.{round_same}
-use Rattle.std.proofs.lemmas.Float.{le_refl, lt_irrefl, lt_trans, lt_of_lt_of_le, le_of_not-lt, lt-or-eq, le_left, le_right, le_trans, le_of_lt, le_of_eq, eq_flip, eq_trans}
+use Rattle.std.proofs.Common.{◌≡◌, ℕ, ◌*◌, ◌/◌, ◌<◌, ◌≤◌, Bool, true, false, cond, not, ◌&&◌, ◌||◌, T, ◌⊎◌, ℤ, pos, sym, refl, ap, ◌∙◌, subst, inl, inr, ⊎_elim, Option, Some, None, div-mul-le_self, zero-lt-suc, true≢false, arith, lit≤, eqb, ltb, leb, leb→le, ltb→lt}
+use mathlib.Core.Bool.{and-false}
+use native.Mathlib.Nat.{le_trans as le_trans_nat}
+use lib.Dec.{not_T}
+use Rattle.std.proofs.lemmas.Bool.{cond_both}
+use lib.Ieee.{Float, fin, binary64, low, round, lt, eq, le, is_nan, fits}
+use lib.Ieee.Fits.{and_l, and_r, add-fits, mul-fits}
+use Rattle.std.proofs.lemmas.Float.{le_refl, lt_irrefl, lt_trans, lt_of_lt_of_le, le_of_not-lt, le_left, le_right, le_trans, le_of_lt, le_of_eq, eq_flip, eq_trans}
 use Rattle.f64_helpers.specs.F64.{◌⊕◌, ◌⊖◌, ◌⊗◌, ◌⊘◌, decimal, zero as zeroᶠ}
 use Rattle.f64_helpers.specs.Helpers as Today
 use Rattle.f64_helpers.specs.Helpers.{floor, negative, both_zero}
-use Rattle.f64_helpers.specs.Ranges.{NotMinusZero}
+use Rattle.f64_helpers.specs.Ranges.{NotMinusZero, Finite}
 use Rattle.f64_helpers.specs.Seconds.{Whole, IsTime, seconds}
 use Rattle.f64_helpers.proofs.Order.{le_numbers, lt_is_not_le}
-use Rattle.f64_helpers.proofs.Quotients.{Within, round_zero, div_is, sign_whole, next_below, rounded_within, floor_within, as_i64_whole, whole_held, fraction_held}
-use Rattle.f64_helpers.proofs.Values.{zero_of_eq}
-use Rattle.f64_helpers.proofs.WholeSeconds.{sub_whole}
+use Rattle.f64_helpers.proofs.WholeSeconds.{eq_whole, zero_whole}
 use Rattle.f64_helpers.proofs.Times.{decimal_whole}
 use Rattle.cdl_recurrences.specs.CdlRecurrences.{clamp, hysteresis, sample_index, sample_due, sampler_output, initial_sample_time, true_delay_output, buildings_line}
-use Rattle.cdl_recurrences.proofs.SampleGrid.{sample_index_whole, initial_sample_time_whole}
+use Rattle.cdl_recurrences.proofs.SampleGrid.{initial_sample_time_whole}
 use Rattle.cooling_only_controller_timing.specs.Timing.{sampler_sample, unit_delay_sample, true_delay, step_seconds}
 use Rattle.cooling_only_controller_timing.specs.declared.SamplerState.{SamplerState}
 use Rattle.cooling_only_controller_timing.specs.declared.UnitDelayState.{UnitDelayState}
 use Rattle.cooling_only_controller_timing.specs.declared.TrueDelayState.{TrueDelayState}
 use Rattle.bounds.specs.PublishedHelpers.{published, published_clamp, published_hysteresis, published_sample_index, RustMax, RustMin}
 use Rattle.bounds.specs.PublishedController.{buildings_line_over, true_delay_output_over, sample_due_over, sampler_output_over, sampler_sample_over, unit_delay_sample_over, true_delay_over, step_seconds_over}
+use Rattle.f64_helpers.proofs.Tests.{yes}
+use Rattle.f64_helpers.proofs.EqualNumbers.{equal_of_le, equal_to_itself, zeros_equal, zero_not_nan, zeros_alike, zeros_not_below, plain_zero, sign_hidden, sum_same}
+use lib.Ieee.Bits.{is_true, is_false}
+use Rattle.f64_helpers.proofs.Intervals.{finite_number}
+use Rattle.f64_helpers.proofs.SignedZeros.{sum_not_minus_zero, difference_not_minus_zero}
+use Rattle.bounds.proofs.PublishedSampleIndex.{sample_index_same}
+
+-- a `max` and a `min` that Rust allows
+pub record Rust : Type 0 where
+  pub max : Float → Float → Float
+  pub min : Float → Float → Float
+  pub max_is : RustMax max
+  pub min_is : RustMin min
+
+-- an f64 that is not -0.0, as an integrator or a flow
+pub record Held (x : Float) : Type 0 where
+  pub held : T (fits binary64 x)
+  pub not_minus_zero : NotMinusZero x
 
 -- ---- `hysteresis`, where u is a number and the low end is not above the high end
-pub hysteresis_same : (u low high : Float) (previous : Bool) → T (not (is_nan u)) → T (le low high) → published_hysteresis u low high previous ≡ hysteresis u low high previous
+pub hysteresis_same : (u low high : Float) (previous : Bool) → Finite u → T (le low high) → published_hysteresis u low high previous ≡ hysteresis u low high previous
 unfolding published_hysteresis hysteresis
-hysteresis_same u low high previous n h =
-    rw (lt_is_not_le u low n (le_numbers low high h).0) (go (lt high u) (le low u) previous (λ a. le_trans low high u h (le_of_lt high u a)))
+hysteresis_same u low high previous f h =
+    rw (lt_is_not_le u low (finite_number u f) (le_numbers low high h).0) (go (lt high u) (le low u) previous (λ a. le_trans low high u h (le_of_lt high u a)))
   where
     go : (above at_least previous : Bool) → (T above → T at_least) → cond above true (cond (not at_least) false previous) ≡ ((not previous && above) || (previous && at_least))
     go true true true f = refl
@@ -42,40 +57,15 @@ hysteresis_same u low high previous n h =
     go false false true f = refl
     go false false false f = refl
 
--- ---- zeros
-pub zeros_equal : (s : Bool) → T (eq (fin s 0 (pos 0)) zeroᶠ)
-unfolding eq
-zeros_equal true = tt
-zeros_equal false = tt
-
-zero_not_nan : (x : Float) → T (eq x zeroᶠ) → is_nan x ≡ false
-unfolding eq is_nan
-zero_not_nan nan h = absurd h
-zero_not_nan (inf s) h = refl
-zero_not_nan (fin s m e) h = refl
-
-to_T : {b : Bool} → b ≡ true → T b
-to_T e = subst T (sym e) tt
-
-pub not_T_is : (b : Bool) → T (not b) → b ≡ false
-not_T_is true h = absurd h
-not_T_is false h = refl
-
--- of two numbers that are zeros neither is below the other
-zeros_not_below : (x y : Float) → T (eq x zeroᶠ) → T (eq y zeroᶠ) → lt x y ≡ false
-zeros_not_below x y p q = not_T_is (lt x y) (go (lt x y) (λ l. lt_irrefl x (lt_of_lt_of_le x y x l (le_of_eq y x (eq_trans y zeroᶠ x q (eq_flip x zeroᶠ p))))))
-  where
-    go : (b : Bool) → (T b → ⊥) → T (not b)
-    go true f = f tt
-    go false f = tt
-
--- document 01's `max` and `min` are among those that Rust allows
+-- ---- document 01's `max` and `min` are among those that Rust allows
+-- each of two zeros is one
 both_l : (x y : Float) → both_zero x y ≡ true → T (eq x zeroᶠ)
-both_l x y e = and_l (eq x zeroᶠ) (eq y zeroᶠ) (to_T e)
+both_l x y e = and_l (eq x zeroᶠ) (eq y zeroᶠ) (yes e)
 
 both_r : (x y : Float) → both_zero x y ≡ true → T (eq y zeroᶠ)
-both_r x y e = and_r (eq x zeroᶠ) (eq y zeroᶠ) (to_T e)
+both_r x y e = and_r (eq x zeroᶠ) (eq y zeroᶠ) (yes e)
 
+-- the sign that `max` gives of two zeros is that of one of them, and so for `min`
 one_sign : (s t : Bool) → (fin (s && t) 0 (pos 0) ≡ fin s 0 (pos 0)) ⊎ (fin (s && t) 0 (pos 0) ≡ fin t 0 (pos 0))
 one_sign true t = inr refl
 one_sign false t = inl refl
@@ -98,187 +88,43 @@ todays_max = record { off_zeros = λ x y e. refl; of_zeros = λ x y e. rw (max_o
 pub todays_min : RustMin Today.min
 todays_min = record { off_zeros = λ x y e. refl; of_zeros = λ x y e. rw (min_of_zeros x y e) (either_sign (negative x) (negative y)) }
 
--- ---- `max` and `min` of zeros, and beside a number that is none
-zero_by : {x y : Float} → x ≡ y → T (eq y zeroᶠ) → T (eq x zeroᶠ)
-zero_by e h = subst (λ (z : Float). T (eq z zeroᶠ)) (sym e) h
+-- ---- the one that is picked of two numbers, by a comparison: off zeros it is that one, and of zeros it is equal to it
+-- what holds of a zero of either sign holds of one of two zeros
+one_zero : {z : Float} {s t : Bool} (P : Float → Type 0) → ((r : Bool) → P (fin r 0 (pos 0))) → (z ≡ fin s 0 (pos 0)) ⊎ (z ≡ fin t 0 (pos 0)) → P z
+one_zero {z} {s} {t} P f c = ⊎_elim (λ e. subst P (sym e) (f s)) (λ e. subst P (sym e) (f t)) c
 
-one_of_two_zeros : (z : Float) (s t : Bool) → (z ≡ fin s 0 (pos 0)) ⊎ (z ≡ fin t 0 (pos 0)) → T (eq z zeroᶠ)
-one_of_two_zeros z s t c = ⊎_elim (λ e. zero_by e (zeros_equal s)) (λ e. zero_by e (zeros_equal t)) c
+is_zero : {z : Float} {s t : Bool} → (z ≡ fin s 0 (pos 0)) ⊎ (z ≡ fin t 0 (pos 0)) → T (eq z zeroᶠ)
+is_zero c = one_zero (λ z. T (eq z zeroᶠ)) zeros_equal c
 
-zeros_alike : (x y : Float) → T (eq x zeroᶠ) → T (eq y zeroᶠ) → T (eq x y)
-zeros_alike x y p q = eq_trans x zeroᶠ y p (eq_flip y zeroᶠ q)
+picked : (z x y : Float) (second : Bool) → T (not (is_nan x)) → T (not (is_nan y)) → (both_zero x y ≡ false → z ≡ cond second y x)
+    → (both_zero x y ≡ true → (z ≡ fin (negative x) 0 (pos 0)) ⊎ (z ≡ fin (negative y) 0 (pos 0))) → T (eq z (cond second y x))
+picked z x y second n m off zeros = go (both_zero x y) refl
+  where
+    one : Float
+    one = cond second y x
 
-equal_to_itself : (x : Float) → T (not (is_nan x)) → T (eq x x)
-equal_to_itself x n = ⊎_elim (λ l. absurd (lt_irrefl x l)) (λ e. e) (lt-or-eq x x (le_refl x n))
+    number : T (not (is_nan one))
+    number = cond_both second y x (λ (v : Float). T (not (is_nan v))) (λ e. m) (λ e. n)
 
-equal_by : {x y : Float} → T (not (is_nan y)) → x ≡ y → T (eq x y)
-equal_by {x} {y} n e = subst (λ (z : Float). T (eq z y)) (sym e) (equal_to_itself y n)
+    go : (b : Bool) → both_zero x y ≡ b → T (eq z one)
+    go true e = zeros_alike z one (is_zero (zeros e)) (cond_both second y x (λ (v : Float). T (eq v zeroᶠ)) (λ p. both_r x y e) (λ p. both_l x y e))
+    go false e = subst (λ (v : Float). T (eq v one)) (sym (off e)) (equal_to_itself one number)
 
-chosen_zero : (b : Bool) (x y : Float) → T (eq x zeroᶠ) → T (eq y zeroᶠ) → T (eq (cond b x y) zeroᶠ)
-chosen_zero true x y p q = p
-chosen_zero false x y p q = q
-
--- x is no NaN
-abbrev pub Number : Float → Type 0
-Number x = T (not (is_nan x))
-
-pub chosen_number : (b : Bool) (x y : Float) → Number x → Number y → Number (cond b x y)
-chosen_number true x y p q = p
-chosen_number false x y p q = q
-
-module _ (max : Float → Float → Float) (rust : RustMax max) (x y : Float) where
-  -- off zeros the larger one, by the comparison alone
-  pub larger : T (not (is_nan x)) → both_zero x y ≡ false → max x y ≡ cond (lt x y) y x
+module _ (max : Float → Float → Float) (rust : RustMax max) (x y : Float) (n : T (not (is_nan x))) where
+  larger : both_zero x y ≡ false → max x y ≡ cond (lt x y) y x
   unfolding Today.max
-  larger n e = rust.off_zeros x y e ∙ rw (not_T_is (is_nan x) n, e) refl
+  larger e = rust.off_zeros x y e ∙ rw (is_false (is_nan x) n, e) refl
 
-  max_is_zero : both_zero x y ≡ true → T (eq (max x y) zeroᶠ)
-  max_is_zero e = one_of_two_zeros (max x y) (negative x) (negative y) (rust.of_zeros x y e)
+  larger_equal : T (not (is_nan y)) → T (eq (max x y) (cond (lt x y) y x))
+  larger_equal m = picked (max x y) x y (lt x y) n m larger (rust.of_zeros x y)
 
-  pub larger_equal : T (not (is_nan x)) → T (not (is_nan y)) → T (eq (max x y) (cond (lt x y) y x))
-  larger_equal n m = go (both_zero x y) refl
-    where
-      go : (b : Bool) → both_zero x y ≡ b → T (eq (max x y) (cond (lt x y) y x))
-      go true e = zeros_alike (max x y) (cond (lt x y) y x) (max_is_zero e) (chosen_zero (lt x y) y x (both_r x y e) (both_l x y e))
-      go false e = equal_by (chosen_number (lt x y) y x m n) (larger n e)
-
-module _ (min : Float → Float → Float) (rust : RustMin min) (x y : Float) where
-  -- off zeros the smaller one
-  pub smaller : T (not (is_nan x)) → both_zero x y ≡ false → min x y ≡ cond (lt y x) y x
+module _ (min : Float → Float → Float) (rust : RustMin min) (x y : Float) (n : T (not (is_nan x))) where
+  smaller : both_zero x y ≡ false → min x y ≡ cond (lt y x) y x
   unfolding Today.min
-  smaller n e = rust.off_zeros x y e ∙ rw (not_T_is (is_nan x) n, e) refl
+  smaller e = rust.off_zeros x y e ∙ rw (is_false (is_nan x) n, e) refl
 
-  min_is_zero : both_zero x y ≡ true → T (eq (min x y) zeroᶠ)
-  min_is_zero e = one_of_two_zeros (min x y) (negative x) (negative y) (rust.of_zeros x y e)
-
-  pub smaller_equal : T (not (is_nan x)) → T (not (is_nan y)) → T (eq (min x y) (cond (lt y x) y x))
-  smaller_equal n m = go (both_zero x y) refl
-    where
-      go : (b : Bool) → both_zero x y ≡ b → T (eq (min x y) (cond (lt y x) y x))
-      go true e = zeros_alike (min x y) (cond (lt y x) y x) (min_is_zero e) (chosen_zero (lt y x) y x (both_r x y e) (both_l x y e))
-      go false e = equal_by (chosen_number (lt y x) y x m n) (smaller n e)
-
--- ---- the sign of a zero that is added
-add_nothing : (s t : Bool) (a b c : ℕ) → b ≡ 0 → (T s → 0 < a) → sum binary64 s a t b c ≡ round binary64 s a c
-unfolding sum
-add_nothing s t a b c z h = rw z (go s t h)
-  where
-    not_below : ltb a 0 ≡ false
-    not_below = grind arith
-
-    less_nothing : a - 0 ≡ a
-    less_nothing = omega arith
-
-    go : (s t : Bool) → (T s → 0 < a) → cond (beq s t) (round binary64 s (a + 0) c) (cond (ltb a 0) (round binary64 t (0 - a) c) (round binary64 (s && ltb 0 a) (a - 0) c)) ≡ round binary64 s a c
-    go true true h = ap (λ (n : ℕ). round binary64 true n c) (add-zero a)
-    go false false h = ap (λ (n : ℕ). round binary64 false n c) (add-zero a)
-    go true false h = rw (not_below, lt-ltb 0 a (h tt), less_nothing)
-    go false true h = rw (not_below, less_nothing)
-
-level_zero : (a b : ℕ) → a ≡ 0 → b ≡ 0 → T (level true a false b)
-level_zero a b p q = rw (p, q) tt
-
-pub size_above_zero : (s : Bool) (m : ℕ) (e : ℤ) → NotMinusZero (fin s m e) → T s → 0 < m * up e * 1
-unfolding eq
-size_above_zero false m e n t = absurd t
-size_above_zero true m e n t = go (eq-zero-or-pos (m * up e * 1))
-  where
-    go : (m * up e * 1 ≡ 0) ⊎ (0 < m * up e * 1) → 0 < m * up e * 1
-    go (inl z) = absurd (T_not (level true (m * up e * 1) false (0 * 1 * down e)) n (level_zero (m * up e * 1) (0 * 1 * down e) z (zero-mul (down e))))
-    go (inr p) = p
-
--- A zero that is added to what is not -0.0 shows no sign.
-pub sign_hidden : (x : Float) (s t : Bool) → NotMinusZero x → x ⊕ fin s 0 (pos 0) ≡ x ⊕ fin t 0 (pos 0)
-unfolding add
-sign_hidden nan s t n = refl
-sign_hidden (inf r) s t n = refl
-sign_hidden (fin r m e) s t n =
-    let a = m * up e * 1 in
-    let b = 0 * 1 * down e in
-    let c = down e * 1 in
-    add_nothing r s a b c (zero-mul (down e)) (size_above_zero r m e n) ∙ sym (add_nothing r t a b c (zero-mul (down e)) (size_above_zero r m e n))
-
--- ---- a product with equal numbers is the same, or is a zero with either sign
-abbrev Signs : Float → Float → Type 0
-Signs x y = (s : Bool) × (t : Bool) × (x ≡ fin s 0 (pos 0)) × (y ≡ fin t 0 (pos 0))
-
-no_size : (a d : ℕ) → 0 < d → a * d ≡ 0 → a ≡ 0
-no_size a d D h = go (eq-zero-or-pos a)
-  where
-    go : (a ≡ 0) ⊎ (0 < a) → a ≡ 0
-    go (inl z) = z
-    go (inr p) = absurd (omega (arith, mul-pos p D))
-
-same_sign : (s t : Bool) → T (beq s t) → s ≡ t
-same_sign true true h = refl
-same_sign true false h = absurd h
-same_sign false true h = absurd h
-same_sign false false h = refl
-
--- what `eq` says of two finite numbers
-level_means : (s t : Bool) (a b : ℕ) → T (level s a t b) → (a ≡ b) × ((s ≡ t) ⊎ (a ≡ 0))
-level_means s t a b h = (eqb→eq a b (and_l (eqb a b) (beq s t || eqb a 0) h), go (beq s t) (same_sign s t) (and_r (eqb a b) (beq s t || eqb a 0) h))
-  where
-    go : (p : Bool) → (T p → s ≡ t) → T (p || eqb a 0) → (s ≡ t) ⊎ (a ≡ 0)
-    go true f h = inl (f tt)
-    go false f h = inr (eqb→eq a 0 h)
-
-first_zero : (m u d : ℕ) → 0 < u → 0 < d → m * u * d ≡ 0 → m ≡ 0
-first_zero m u d U D h = no_size m u U (no_size (m * u) d D h)
-
-some_size : (m u d : ℕ) → 0 < u → 0 < d → suc m * u * d ≡ 0 → ⊥
-some_size m u d U D h = omega (arith, first_zero (suc m) u d U D h)
-
-pub nothing_times : (u d : ℕ) → 0 * u * d ≡ 0
-nothing_times u d = ap (λ (z : ℕ). z * d) (zero-mul u) ∙ zero-mul d
-
-infinite_product : (r s t : Bool) (m n : ℕ) (e d : ℤ) → T (level s (m * up e * down d) t (n * up d * down e))
-    → cond (eqb m 0) nan (inf (unlike r s)) ≡ cond (eqb n 0) nan (inf (unlike r t))
-infinite_product r s t zero zero e d h = refl
-infinite_product r s t zero (suc n) e d h =
-    absurd (some_size n (up d) (down e) (up_pos d) (down_pos e) (sym (level_means s t (0 * up e * down d) (suc n * up d * down e) h).0 ∙ nothing_times (up e) (down d)))
-infinite_product r s t (suc m) zero e d h =
-    absurd (some_size m (up e) (down d) (up_pos e) (down_pos d) ((level_means s t (suc m * up e * down d) (0 * up d * down e) h).0 ∙ nothing_times (up d) (down e)))
-infinite_product r s t (suc m) (suc n) e d h =
-    rw (eqb-suc-zero m, eqb-suc-zero n)
-    (⊎_elim (λ same. ap (λ (s : Bool). inf (unlike r s)) same) (λ z. absurd (some_size m (up e) (down d) (up_pos e) (down_pos d) z)) (level_means s t (suc m * up e * down d) (suc n * up d * down e) h).1)
-
--- ±k / c times ±a / p and times ±b / q, where a / p is b / q
-finite_product : (r s t : Bool) (k c a p b q : ℕ) → 0 < c → 0 < p → 0 < q → a * q ≡ b * p → (s ≡ t) ⊎ (a * q ≡ 0)
-    → (round binary64 (unlike r s) (k * a) (c * p) ≡ round binary64 (unlike r t) (k * b) (c * q)) ⊎ Signs (round binary64 (unlike r s) (k * a) (c * p)) (round binary64 (unlike r t) (k * b) (c * q))
-finite_product r s t k c a p b q C P Q same (inl e) =
-    inl (ap (λ (s : Bool). round binary64 (unlike r s) (k * a) (c * p)) e
-    ∙ round_same binary64 (unlike r t) (k * a) (c * p) (k * b) (c * q) (mul-pos C P) (mul-pos C Q) (mul-mul-mul_comm k a c q ∙ ap (λ (z : ℕ). k * c * z) same ∙ mul-mul-mul_comm k c b p))
-finite_product r s t k c a p b q C P Q same (inr z) =
-    let a_zero : a ≡ 0 = no_size a q Q z in
-    let b_zero : b ≡ 0 = no_size b p P (sym same ∙ z) in
-    inr (
-      unlike r s,
-      unlike r t,
-      ap (λ (n : ℕ). round binary64 (unlike r s) n (c * p)) (ap (λ (n : ℕ). k * n) a_zero ∙ mul-zero k) ∙ round_zero (unlike r s) (c * p) (mul-pos C P),
-      ap (λ (n : ℕ). round binary64 (unlike r t) n (c * q)) (ap (λ (n : ℕ). k * n) b_zero ∙ mul-zero k) ∙ round_zero (unlike r t) (c * q) (mul-pos C Q),
-    )
-
-pub product_equal : (g x y : Float) → T (eq x y) → (g ⊗ x ≡ g ⊗ y) ⊎ Signs (g ⊗ x) (g ⊗ y)
-unfolding eq mul
-product_equal g nan y h = absurd h
-product_equal g (inf s) nan h = absurd h
-product_equal g (inf s) (fin t n d) h = absurd h
-product_equal g (fin s m e) nan h = absurd h
-product_equal g (fin s m e) (inf t) h = absurd h
-product_equal g (inf s) (inf t) h = inl (ap (λ (s : Bool). mul binary64 g (inf s)) (same_sign s t h))
-product_equal nan (fin s m e) (fin t n d) h = inl refl
-product_equal (inf r) (fin s m e) (fin t n d) h = inl (infinite_product r s t m n e d h)
-product_equal (fin r k c) (fin s m e) (fin t n d) h =
-    let means = level_means s t (m * up e * down d) (n * up d * down e) h in
-    finite_product r s t (k * up c) (down c) (m * up e) (down e) (n * up d) (down d) (down_pos c) (down_pos e) (down_pos d) means.0 means.1
-
--- So a sum with such a product is the same.
-pub sum_same : (b g x y : Float) → NotMinusZero b → T (eq x y) → b ⊕ g ⊗ x ≡ b ⊕ g ⊗ y
-sum_same b g x y n h =
-    ⊎_elim (λ e. ap (λ (z : Float). b ⊕ z) e)
-    (λ z. ap (λ (y : Float). b ⊕ y) z.2 ∙ sign_hidden b z.0 z.1 n ∙ sym (ap (λ (y : Float). b ⊕ y) z.3))
-    (product_equal g x y h)
+  smaller_equal : T (not (is_nan y)) → T (eq (min x y) (cond (lt y x) y x))
+  smaller_equal m = picked (min x y) x y (lt y x) n m smaller (rust.of_zeros x y)
 
 -- ---- `clamp`
 -- the value or, where it lies above, the high end
@@ -286,21 +132,10 @@ abbrev limited : Float → Float → Float
 limited value high = cond (lt high value) high value
 
 limited_le : (value high : Float) → T (not (is_nan value)) → T (le (limited value high) value)
-limited_le value high n = go (lt high value) (le_of_lt high value)
-  where
-    go : (b : Bool) → (T b → T (le high value)) → T (le (cond b high value) value)
-    go true f = f tt
-    go false f = le_refl value n
+limited_le value high n = cond_both (lt high value) high value (λ x. T (le x value)) (λ e. le_of_lt high value (yes e)) (λ e. le_refl value n)
 
 limited_ge : (value low high : Float) → T (le low high) → T (le low value) → T (le low (limited value high))
-limited_ge value low high h k = go (lt high value)
-  where
-    go : (b : Bool) → T (le low (cond b high value))
-    go true = h
-    go false = k
-
-equal_of_le : (x y : Float) → T (le x y) → T (le y x) → T (eq x y)
-equal_of_le x y h k = ⊎_elim (λ l. absurd (lt_irrefl x (lt_of_lt_of_le x y x l k))) (λ e. e) (lt-or-eq x y h)
+limited_ge value low high h k = cond_both (lt high value) high value (λ x. T (le low x)) (λ e. h) (λ e. k)
 
 -- the larger of the low end and the smaller of the value and the high end is the value, limited
 clamp_numbers : (value low high m c : Float) → T (not (is_nan value)) → T (le low high) → T (eq m (limited value high)) → T (eq c (cond (lt low m) m low))
@@ -327,44 +162,24 @@ clamp_numbers value low high m c n h p q =
 
 one_no_zero : (x : Float) → both_zero x (decimal 1 1) ≡ false
 unfolding round eq
-one_no_zero x = go (eq x zeroᶠ)
-  where
-    go : (b : Bool) → (b && false) ≡ false
-    go true = refl
-    go false = refl
+one_no_zero x = and-false (eq x zeroᶠ)
 
-pub zero_below_one : T (lt zeroᶠ (decimal 1 1))
+zero_below_one : T (lt zeroᶠ (decimal 1 1))
 unfolding round lt
 zero_below_one = tt
 
-pub zero_number : T (not (is_nan zeroᶠ))
+zero_number : T (not (is_nan zeroᶠ))
 unfolding is_nan
 zero_number = tt
-
-T_is : (b : Bool) → T b → b ≡ true
-T_is true t = refl
-T_is false t = absurd t
-
-pub T_not_not : (b : Bool) → (T b → ⊥) → T (not b)
-T_not_not true f = f tt
-T_not_not false f = tt
 
 zero_beside : (x : Float) → both_zero zeroᶠ x ≡ eq x zeroᶠ
 unfolding eq
 zero_beside x = refl
 
+-- of two zeros of one sign there is no choice
 zero_and_zero : (max : Float → Float → Float) → RustMax max → max zeroᶠ zeroᶠ ≡ cond (lt zeroᶠ zeroᶠ) zeroᶠ zeroᶠ
 unfolding eq lt
 zero_and_zero max rust = ⊎_elim (λ e. e) (λ e. e) (rust.of_zeros zeroᶠ zeroᶠ refl)
-
--- a zero that an f64 holds and that is not -0.0
-zero_is : (x : Float) → T (fits binary64 x) → NotMinusZero x → T (eq x zeroᶠ) → x ≡ zeroᶠ
-zero_is x f m z = zero_of_eq x f z ∙ ap (λ (s : Bool). fin s 0 (pos 0)) (go (negative x) (eq x zeroᶠ) m z)
-  where
-    go : (s b : Bool) → T (not (s && b)) → T b → s ≡ false
-    go true true m z = absurd m
-    go true false m z = absurd z
-    go false b m z = refl
 
 -- of a number that is no zero
 one_below : (x : Float) → T (not (is_nan x)) → (T (eq x zeroᶠ) → ⊥) → cond (lt zeroᶠ x) x zeroᶠ ≡ cond (lt x zeroᶠ) zeroᶠ x
@@ -376,159 +191,116 @@ one_below x n z = go (lt zeroᶠ x) (lt x zeroᶠ) (λ k. k) (λ k. k) (le_of_no
     go false true f g k l = refl
     go false false f g k l = absurd (z (equal_of_le x zeroᶠ (k tt) (l tt)))
 
-module _ (max min : Float → Float → Float) (rust_max : RustMax max) (rust_min : RustMin min) where
+module _ (r : Rust) where
   -- as numbers it is always the same, where the value is a number and the low end is not above the high end
-  pub clamp_equal : (value low high : Float) → T (not (is_nan value)) → T (le low high) → T (eq (published_clamp max min value low high) (clamp value low high))
+  clamp_equal : (value low high : Float) → T (not (is_nan value)) → T (le low high) → T (eq (published_clamp r.max r.min value low high) (clamp value low high))
   unfolding published_clamp clamp
   clamp_equal value low high n h =
-      let m = min value high in
-      let p = smaller_equal min rust_min value high n (le_right low high h) in
-      clamp_numbers value low high m (max low m) n h p (larger_equal max rust_max low m (le_left low high h) (le_left m (limited value high) (le_of_eq m (limited value high) p)))
+      let m = r.min value high in
+      let p = smaller_equal r.min r.min_is value high n (le_right low high h) in
+      clamp_numbers value low high m (r.max low m) n h p (larger_equal r.max r.max_is low m (le_left low high h) (le_left m (limited value high) (le_of_eq m (limited value high) p)))
 
   -- Between 0.0 and 1.0 it is the same in every bit, where the value is not -0.0.
-  pub clamp_same : (value : Float) → T (not (is_nan value)) → T (fits binary64 value) → NotMinusZero value
-      → published_clamp max min value zeroᶠ (decimal 1 1) ≡ clamp value zeroᶠ (decimal 1 1)
+  clamp_same : (value : Float) → T (not (is_nan value)) → T (fits binary64 value) → NotMinusZero value
+      → published_clamp r.max r.min value zeroᶠ (decimal 1 1) ≡ clamp value zeroᶠ (decimal 1 1)
   unfolding published_clamp clamp
-  clamp_same value n f m = rw (smaller min rust_min value (decimal 1 1) n (one_no_zero value)) (go (lt (decimal 1 1) value) (λ k. k))
+  clamp_same value n f m =
+      rw (smaller r.min r.min_is value (decimal 1 1) n (one_no_zero value))
+      (cond_both (lt (decimal 1 1) value) (decimal 1 1) value (λ x. r.max zeroᶠ x ≡ cond (lt value zeroᶠ) zeroᶠ x) (λ e. above (yes e)) (λ e. within))
     where
-      above : T (lt (decimal 1 1) value) → max zeroᶠ (decimal 1 1) ≡ cond (lt value zeroᶠ) zeroᶠ (decimal 1 1)
+      above : T (lt (decimal 1 1) value) → r.max zeroᶠ (decimal 1 1) ≡ cond (lt value zeroᶠ) zeroᶠ (decimal 1 1)
       above k =
-          larger max rust_max zeroᶠ (decimal 1 1) zero_number (one_no_zero zeroᶠ)
-          ∙ rw (T_is (lt zeroᶠ (decimal 1 1)) zero_below_one, not_T_is (lt value zeroᶠ) (T_not_not (lt value zeroᶠ) (λ l. lt_irrefl value (lt_trans value zeroᶠ value l (lt_trans zeroᶠ (decimal 1 1) value zero_below_one k))))) refl
+          larger r.max r.max_is zeroᶠ (decimal 1 1) zero_number (one_no_zero zeroᶠ)
+          ∙ rw (
+            is_true (lt zeroᶠ (decimal 1 1)) zero_below_one,
+            is_false (lt value zeroᶠ) (not_T (lt value zeroᶠ) (λ l. lt_irrefl value (lt_trans value zeroᶠ value l (lt_trans zeroᶠ (decimal 1 1) value zero_below_one k)))),
+          ) refl
 
-      within : max zeroᶠ value ≡ cond (lt value zeroᶠ) zeroᶠ value
+      within : r.max zeroᶠ value ≡ cond (lt value zeroᶠ) zeroᶠ value
       within = by_zero (eq value zeroᶠ) refl
         where
-          by_zero : (b : Bool) → eq value zeroᶠ ≡ b → max zeroᶠ value ≡ cond (lt value zeroᶠ) zeroᶠ value
-          by_zero true e = rw (zero_is value f m (to_T e)) (zero_and_zero max rust_max)
-          by_zero false e = larger max rust_max zeroᶠ value zero_number (zero_beside value ∙ e) ∙ one_below value n (λ k. true≢false (sym (T_is (eq value zeroᶠ) k) ∙ e))
+          by_zero : (b : Bool) → eq value zeroᶠ ≡ b → r.max zeroᶠ value ≡ cond (lt value zeroᶠ) zeroᶠ value
+          by_zero true e = rw (plain_zero value f m (yes e)) (zero_and_zero r.max r.max_is)
+          by_zero false e = larger r.max r.max_is zeroᶠ value zero_number (zero_beside value ∙ e) ∙ one_below value n (λ k. true≢false (sym (is_true (eq value zeroᶠ) k) ∙ e))
 
-      go : (b : Bool) → (T b → T (lt (decimal 1 1) value)) → max zeroᶠ (cond b (decimal 1 1) value) ≡ cond (lt value zeroᶠ) zeroᶠ (cond b (decimal 1 1) value)
-      go true f = above (f tt)
-      go false f = within
+  -- So it is for a PI before its limits, whose integrator is not -0.0.
+  pub limits_same : (gain error integrator : Float) → Held integrator → Finite (gain ⊗ error ⊕ integrator)
+      → published_clamp r.max r.min (gain ⊗ error ⊕ integrator) zeroᶠ (decimal 1 1) ≡ clamp (gain ⊗ error ⊕ integrator) zeroᶠ (decimal 1 1)
+  limits_same gain error integrator kept f =
+      clamp_same (gain ⊗ error ⊕ integrator) (finite_number (gain ⊗ error ⊕ integrator) f) (add-fits binary64 (gain ⊗ error) integrator)
+      (sum_not_minus_zero (gain ⊗ error) integrator (mul-fits binary64 gain error) kept.held (inr kept.not_minus_zero))
 
-  -- ---- the line
-  pub line_same : (x1 f1 x2 f2 u : Float) → T (not (is_nan u)) → T (le x1 x2) → NotMinusZero (f2 ⊖ (f2 ⊖ f1) ⊘ (x2 ⊖ x1) ⊗ x2)
-      → buildings_line_over (published max min) x1 f1 x2 f2 u ≡ buildings_line x1 f1 x2 f2 u
+  -- ---- the line, of which f2 is an f64 that is not -0.0
+  pub line_same : (x1 f1 x2 f2 u : Float) → Finite u → T (le x1 x2) → Held f2 → buildings_line_over (published r.max r.min) x1 f1 x2 f2 u ≡ buildings_line x1 f1 x2 f2 u
   unfolding buildings_line_over buildings_line
-  line_same x1 f1 x2 f2 u n h b =
+  line_same x1 f1 x2 f2 u f h kept =
       let slope = (f2 ⊖ f1) ⊘ (x2 ⊖ x1) in
-      sum_same (f2 ⊖ slope ⊗ x2) slope (published_clamp max min u x1 x2) (clamp u x1 x2) b (clamp_equal u x1 x2 n h)
+      sum_same (f2 ⊖ slope ⊗ x2) slope (published_clamp r.max r.min u x1 x2) (clamp u x1 x2)
+      (difference_not_minus_zero f2 (slope ⊗ x2) kept.held (mul-fits binary64 slope x2) kept.not_minus_zero) (clamp_equal u x1 x2 (finite_number u f) h)
 
--- ---- `sample_index` on whole seconds
--- 1e-9, which is at most 1 / 256
-nano_is : decimal 1 1000000000 ≡ fin false 4835703278458517 (negsuc 81)
-unfolding round
-nano_is = refl
-
--- a number from q to q + 127 / 128, and one of at most 1 / 256: the sum, rounded, is from q to q + 255 / 256
-sum_within : (m : ℕ) (e : ℤ) (n : ℕ) (d : ℤ) (q w : ℕ) → q * 256 + 255 < 2 ^ 53 → w ≡ q * 128 + 127 → q * down e ≤ m * up e * 1 → m * up e * 128 ≤ w * down e → n * up d * 256 ≤ down d
-    → Within (fin false m e ⊕ fin false n d) q 1 (q * 256 + 255) 256
-unfolding add sum
-sum_within m e n d q w Q W low high small =
-    rounded_within (m * up e * down d + n * up d * down e) (down e * down d) q 1 (q * 256 + 255) 256 (mul-pos (down_pos e) (down_pos d)) (zero-lt-suc 0) (zero-lt-suc 255)
-    (whole_held q (omega arith)) (fraction_held (q * 256 + 255) 8 Q (lit≤ tt)) (from_low (m * up e) (n * up d) (down d) (down e) q low) (to_high (m * up e) (n * up d) (down d) (down e) q w W high small)
-  where
-    from_low : (x y D E q : ℕ) → q * E ≤ x * 1 → q * (E * D) ≤ (x * D + y * E) * 1
-    from_low x y D E q h =
-        let l : q * E * D ≤ x * 1 * D = mul-le-mul_right D h in
-        omega (arith, mul_assoc q E D, ap (λ (z : ℕ). z * D) (mul-one x), mul-one (x * D + y * E))
-
-    linear : (a b c v l r : ℕ) → l ≡ a * 128 → r ≡ b * 256 → l ≤ v → r ≤ c → (a + b) * 256 ≤ v * 2 + c
-    linear a b c v l r p s h k = omega arith
-
-    expand : (w c : ℕ) → (w * 2 + 1) * c ≡ w * c * 2 + c
-    expand w c = add-mul (w * 2) 1 c ∙ ap₂ ◌+◌ (mul_right_comm w 2 c) (one-mul c)
-
-    to_high : (x y D E q w : ℕ) → w ≡ q * 128 + 127 → x * 128 ≤ w * E → y * 256 ≤ D → (x * D + y * E) * 256 ≤ (q * 256 + 255) * (E * D)
-    to_high x y D E q w W h k =
-        let l : x * 128 * D ≤ w * (E * D) = subst (λ (z : ℕ). x * 128 * D ≤ z) (mul_assoc w E D) (mul-le-mul_right D h) in
-        let r : y * 256 * E ≤ E * D = subst (λ (z : ℕ). y * 256 * E ≤ z) (mul_comm D E) (mul-le-mul_right E k) in
-        let twice : q * 256 + 255 ≡ w * 2 + 1 = omega arith in
-        rw (twice, expand w (E * D)) (linear (x * D) (y * E) (E * D) (w * (E * D)) (x * 128 * D) (y * 256 * E) (mul_right_comm x 128 D) (mul_right_comm y 256 E) l r)
-
-floor_of_nano : Whole (floor (fin true 0 (pos 0) ⊕ decimal 1 1000000000)) 0
-unfolding round add floor
-floor_of_nano = (refl, λ q. refl)
-
--- the whole quotient of a number of seconds by 120, with 1e-9 added before the floor
-floor_with_nano : (s : Bool) (a : ℕ) → a ≤ 2147483648 → (T s → a ≡ 0) → Whole (floor (round binary64 s a 120 ⊕ decimal 1 1000000000)) (a / 120)
-floor_with_nano true a A z = rw (z tt, round_zero true 120 (zero-lt-suc 119)) floor_of_nano
-floor_with_nano false a A z =
-    let q = a / 120 in
-    let Q : q ≤ a = div-le_self a 120 in
-    let y = rounded_within a 120 q 1 (q * 128 + 127) 128 (zero-lt-suc 119) (zero-lt-suc 0) (zero-lt-suc 127) (whole_held q (omega arith)) (fraction_held (q * 128 + 127) 7 (omega arith) (lit≤ tt))
-    (le_trans_nat (div-mul-le_self a 120) (le_of_eq_nat (sym (mul-one a)))) (next_below a 120 q 128 (q * 128 + 127) (lt-div-mul-add (zero-lt-suc 119)) (lit≤ tt) (omega arith)) in
-    rw (y.2, nano_is)
-    (floor_within (fin false y.0 y.1 ⊕ fin false 4835703278458517 (negsuc 81)) q (q * 256 + 255) 256
-    (sum_within y.0 y.1 4835703278458517 (negsuc 81) q (q * 128 + 127) (omega arith) refl y.3 y.4 (lit≤ tt)) (omega arith) (omega arith))
-
-pub sample_index_same : (t t0 : Float) (n m : ℕ) → Whole t n → Whole t0 m → m ≤ n → n ≤ 2147483648
-    → published_sample_index t t0 (decimal 120 1) ≡ sample_index t t0 (decimal 120 1)
-unfolding published_sample_index
-sample_index_same t t0 n m v u M N =
-    let period : Whole (decimal 120 1) 120 = decimal_whole 120 (omega arith) in
-    let since : Whole (t ⊖ t0) (n - m) = sub_whole binary64 t t0 n m v u M (omega arith) in
-    let quotient : (t ⊖ t0) ⊘ decimal 120 1 ≡ round binary64 (negative (t ⊖ t0)) (n - m) 120 = div_is (t ⊖ t0) (decimal 120 1) (n - m) 120 since period (zero-lt-suc 119) in
-    rw quotient
-    (as_i64_whole (floor (round binary64 (negative (t ⊖ t0)) (n - m) 120 ⊕ decimal 1 1000000000)) ((n - m) / 120)
-    (floor_with_nano (negative (t ⊖ t0)) (n - m) (omega arith) (sign_whole (t ⊖ t0) (n - m) since)) (omega (arith, div-le_self (n - m) 120)))
-    ∙ sym (sample_index_whole t t0 (decimal 120 1) n m 120 v u M N period (zero-lt-suc 119) (lit≤ tt))
-
--- ---- the larger of a difference of times and 0.0, where it is added
+-- ---- the larger of a difference of times and 0.0, where the sign of a zero does not show
 module _ (max : Float → Float → Float) (rust : RustMax max) (d : Float) where
-  pub product_of_step : (x g : Float) → NotMinusZero x → x ⊕ g ⊗ max d zeroᶠ ≡ x ⊕ g ⊗ Today.max d zeroᶠ
-  product_of_step x g n = go (both_zero d zeroᶠ) refl
+  step_hidden : (shown : Float → Float) → ((s t : Bool) → shown (fin s 0 (pos 0)) ≡ shown (fin t 0 (pos 0))) → shown (max d zeroᶠ) ≡ shown (Today.max d zeroᶠ)
+  step_hidden shown hidden = go (both_zero d zeroᶠ) refl
     where
-      go : (b : Bool) → both_zero d zeroᶠ ≡ b → x ⊕ g ⊗ max d zeroᶠ ≡ x ⊕ g ⊗ Today.max d zeroᶠ
-      go true e = sum_same x g (max d zeroᶠ) (Today.max d zeroᶠ) n (zeros_alike (max d zeroᶠ) (Today.max d zeroᶠ) (max_is_zero max rust d zeroᶠ e) (max_is_zero Today.max todays_max d zeroᶠ e))
-      go false e = ap (λ (z : Float). x ⊕ g ⊗ z) (rust.off_zeros d zeroᶠ e)
+      of_zeros : {z : Float} {s t : Bool} → (z ≡ fin s 0 (pos 0)) ⊎ (z ≡ fin t 0 (pos 0)) → shown z ≡ shown zeroᶠ
+      of_zeros c = one_zero (λ z. shown z ≡ shown zeroᶠ) (λ r. hidden r false) c
 
-  pub step_added : (x : Float) → NotMinusZero x → x ⊕ max d zeroᶠ ≡ x ⊕ Today.max d zeroᶠ
-  step_added x n = go (both_zero d zeroᶠ) refl
-    where
-      one_zero : (z : Float) (s t : Bool) → (z ≡ fin s 0 (pos 0)) ⊎ (z ≡ fin t 0 (pos 0)) → x ⊕ z ≡ x ⊕ fin false 0 (pos 0)
-      one_zero z s t c = ⊎_elim (λ e. ap (λ (z : Float). x ⊕ z) e ∙ sign_hidden x s false n) (λ e. ap (λ (z : Float). x ⊕ z) e ∙ sign_hidden x t false n) c
+      go : (b : Bool) → both_zero d zeroᶠ ≡ b → shown (max d zeroᶠ) ≡ shown (Today.max d zeroᶠ)
+      go true e = of_zeros (rust.of_zeros d zeroᶠ e) ∙ sym (of_zeros (todays_max.of_zeros d zeroᶠ e))
+      go false e = ap shown (rust.off_zeros d zeroᶠ e)
 
-      go : (b : Bool) → both_zero d zeroᶠ ≡ b → x ⊕ max d zeroᶠ ≡ x ⊕ Today.max d zeroᶠ
-      go true e =
-          one_zero (max d zeroᶠ) (negative d) (negative zeroᶠ) (rust.of_zeros d zeroᶠ e)
-          ∙ sym (one_zero (Today.max d zeroᶠ) (negative d) (negative zeroᶠ) (todays_max.of_zeros d zeroᶠ e))
-      go false e = ap (λ (z : Float). x ⊕ z) (rust.off_zeros d zeroᶠ e)
+  step_added : (x : Float) → NotMinusZero x → x ⊕ max d zeroᶠ ≡ x ⊕ Today.max d zeroᶠ
+  step_added x n = step_hidden (λ z. x ⊕ z) (λ s t. sign_hidden x s t n)
+
+  product_of_step : (x g : Float) → NotMinusZero x → x ⊕ g ⊗ max d zeroᶠ ≡ x ⊕ g ⊗ Today.max d zeroᶠ
+  product_of_step x g n = step_hidden (λ z. x ⊕ g ⊗ z) (λ s t. sum_same x g _ _ n (zeros_alike _ _ (zeros_equal s) (zeros_equal t)))
 
 -- ---- the timing blocks
+length_no_zero : (n : ℕ) → T (ltb 0 n) → T (leb n 1800) → both_zero (decimal n 1) zeroᶠ ≡ false
+length_no_zero n P N = rw (eq_whole (decimal n 1) zeroᶠ n 0 (decimal_whole n (le_trans_nat (leb→le n 1800 N) (lit≤ tt))) zero_whole) (go n (ltb→lt 0 n P))
+  where
+    go : (n : ℕ) → 0 < n → (eqb n 0 && eq zeroᶠ zeroᶠ) ≡ false
+    go n P = grind arith
+
 -- a sample grid that starts on a whole second, which is not after t
 pub record Started (t0 t : Float) : Type 0 where
   pub whole : Whole t0 (seconds t0)
   pub begun : seconds t0 ≤ seconds t
 
-module _ (max min : Float → Float → Float) (rust_max : RustMax max) where
+module _ (r : Rust) where
   delay_output_same : (t : Float) (u : Bool) (delay_time : Float) (delay_on_init : Bool) (previous_time : Option Float) (previous_u held : Bool) (timer : Float)
       → both_zero delay_time zeroᶠ ≡ false → NotMinusZero timer
-      → true_delay_output_over (published max min) t u delay_time delay_on_init previous_time previous_u held timer ≡ true_delay_output t u delay_time delay_on_init previous_time previous_u held timer
+      → true_delay_output_over (published r.max r.min) t u delay_time delay_on_init previous_time previous_u held timer
+      ≡ true_delay_output t u delay_time delay_on_init previous_time previous_u held timer
   unfolding true_delay_output_over true_delay_output
   delay_output_same t false delay_time delay_on_init previous_time previous_u held timer e n = refl
-  delay_output_same t true delay_time delay_on_init None previous_u held timer e n = rw (rust_max.off_zeros delay_time zeroᶠ e) refl
+  delay_output_same t true delay_time delay_on_init None previous_u held timer e n = rw (r.max_is.off_zeros delay_time zeroᶠ e) refl
   delay_output_same t true delay_time delay_on_init (Some previous) previous_u held timer e n =
-      rw (rust_max.off_zeros delay_time zeroᶠ e, step_added max rust_max (t ⊖ previous) timer n) refl
+      rw (r.max_is.off_zeros delay_time zeroᶠ e, step_added r.max r.max_is (t ⊖ previous) timer n) refl
 
-  pub true_delay_same : (s : TrueDelayState) (t delay_time : Float) (delay_on_init : Bool) → both_zero delay_time zeroᶠ ≡ false → NotMinusZero s.timer → (input : Bool)
-      → true_delay_over (published max min) s t input delay_time delay_on_init ≡ true_delay s t input delay_time delay_on_init
+  true_delay_same : (s : TrueDelayState) (t delay_time : Float) (delay_on_init : Bool) → both_zero delay_time zeroᶠ ≡ false → NotMinusZero s.timer → (input : Bool)
+      → true_delay_over (published r.max r.min) s t input delay_time delay_on_init ≡ true_delay s t input delay_time delay_on_init
   unfolding true_delay_over true_delay
   true_delay_same s t delay_time delay_on_init e n input =
       rw (delay_output_same t input delay_time delay_on_init s.previous_time s.previous_input s.held s.timer e n) refl
 
+  -- of n seconds
+  pub delay_same : (n : ℕ) → T (ltb 0 n && leb n 1800) → (s : TrueDelayState) (t : Float) (delay_on_init : Bool) → NotMinusZero s.timer → (input : Bool)
+      → true_delay_over (published r.max r.min) s t input (decimal n 1) delay_on_init ≡ true_delay s t input (decimal n 1) delay_on_init
+  delay_same n h s t delay_on_init k input = true_delay_same s t (decimal n 1) delay_on_init (length_no_zero n (and_l (ltb 0 n) (leb n 1800) h) (and_r (ltb 0 n) (leb n 1800) h)) k input
+
   pub integral_same : (x : Float) (previous_time : Option Float) (t : Float) → NotMinusZero x → (g : Float)
-      → x ⊕ g ⊗ step_seconds_over (published max min) previous_time t ≡ x ⊕ g ⊗ step_seconds previous_time t
+      → x ⊕ g ⊗ step_seconds_over (published r.max r.min) previous_time t ≡ x ⊕ g ⊗ step_seconds previous_time t
   integral_same x None t n g = refl
-  integral_same x (Some previous) t n g = product_of_step max rust_max (t ⊖ previous) x g n
+  integral_same x (Some previous) t n g = product_of_step r.max r.max_is (t ⊖ previous) x g n
 
   -- a grid that starts on a whole second, which is not after t
   module _ (t : Float) (time : IsTime t) (t0 : Float) (started : Started t0 t) where
     index_same : published_sample_index t t0 (decimal 120 1) ≡ sample_index t t0 (decimal 120 1)
     index_same = sample_index_same t t0 (seconds t) (seconds t0) time.0 started.whole started.begun time.1
 
-    due_same : (last : ℤ) → sample_due_over (published max min) t t0 (decimal 120 1) last ≡ sample_due t t0 (decimal 120 1) last
+    due_same : (last : ℤ) → sample_due_over (published r.max r.min) t t0 (decimal 120 1) last ≡ sample_due t t0 (decimal 120 1) last
     unfolding sample_due_over sample_due
     due_same last = rw index_same refl
 
@@ -540,11 +312,11 @@ module _ (max min : Float → Float → Float) (rust_max : RustMax max) where
       (initial_sample_time_whole t (decimal 120 1) n 120 time.0 time.1 (decimal_whole 120 (omega arith)) (zero-lt-suc 119) (lit≤ tt)) (div-mul-le_self n 120) time.1
 
   pub sampler_same : (s : SamplerState) (t : Float) → IsTime t → Started s.t0 t → (input : Float)
-      → sampler_sample_over (published max min) s t input (decimal 120 1) ≡ sampler_sample s t input (decimal 120 1)
+      → sampler_sample_over (published r.max r.min) s t input (decimal 120 1) ≡ sampler_sample s t input (decimal 120 1)
   unfolding sampler_sample_over sampler_sample sampler_output_over sampler_output
   sampler_same s t time started input = rw (due_same t time s.t0 started s.last_index, first_index_same t time) refl
 
   pub unit_delay_same : (s : UnitDelayState) (t : Float) → IsTime t → Started s.t0 t → (input : Float)
-      → unit_delay_sample_over (published max min) s t input (decimal 120 1) ≡ unit_delay_sample s t input (decimal 120 1)
+      → unit_delay_sample_over (published r.max r.min) s t input (decimal 120 1) ≡ unit_delay_sample s t input (decimal 120 1)
   unfolding unit_delay_sample_over unit_delay_sample
   unit_delay_same s t time started input = rw (due_same t time s.t0 started s.last_index, first_index_same t time) refl

@@ -82,7 +82,7 @@ loop_text s t error trigger = rw step_text refl
 loops_text : (s : ControlLoopsState) (t cooling_setpoint zone_temperature heating_setpoint : Float)
     → control_loops_over document_01 s t cooling_setpoint zone_temperature heating_setpoint ≡ control_loops s t cooling_setpoint zone_temperature heating_setpoint
 unfolding control_loops_over control_loops
-loops_text s t cooling_setpoint zone_temperature heating_setpoint = rw (loop_text s.cooling_pi, loop_text s.heating_pi, true_delay_text s.cooling_delay, true_delay_text s.heating_delay) refl
+loops_text s t cooling_setpoint zone_temperature heating_setpoint = simp (loop_text, true_delay_text) refl
 
 setpoints_text : (s : SetpointsState) (input : SetpointInput) (choices : Choices) → setpoints_over document_01 s input choices ≡ setpoints s input choices
 unfolding setpoints_over setpoints buildings_line_over buildings_line
@@ -99,30 +99,11 @@ damper_text s t input choices = rw (line_text, step_text) refl
 requests_text : (s : SystemRequestsState) (t : Float) (input : SystemRequestInput) (choices : Choices)
     → system_requests_over document_01 s t input choices ≡ system_requests s t input choices
 unfolding system_requests_over system_requests
-requests_text s t input choices =
-    rw (
-      true_delay_text s.hot_three_delay,
-      true_delay_text s.hot_two_delay,
-      sampler_text s.cooling_sampler,
-      sampler_text s.setpoint_sampler,
-      sampler_text s.discharge_sampler,
-      sampler_text s.damper_sampler,
-      true_delay_text s.damper_delay,
-    )
-    refl
+requests_text s t input choices = simp (true_delay_text, sampler_text) refl
 
 alarms_text : (s : AlarmsState) (t : Float) (input : AlarmInput) (choices : Choices) → alarms_over document_01 s t input choices ≡ alarms s t input choices
 unfolding alarms_over alarms
-alarms_text s t input choices =
-    rw (
-      true_delay_text s.fan_armed,
-      true_delay_text s.setpoint_on,
-      true_delay_text s.low_half_delay,
-      true_delay_text s.low_seventy_delay,
-      true_delay_text s.sensor_delay,
-      true_delay_text s.leak_delay,
-    )
-    refl
+alarms_text s t input choices = simp true_delay_text refl
 
 -- ---- the controller
 pub same_text : (s : ControllerState) (t : Float) (input : ControllerInput) (choices : Choices)

@@ -15,7 +15,8 @@ use Rattle.bounds.proofs.Timing.{Accepted, kept_true_delay, kept_sampler, length
 
 module _ {last : Option Float} {t : Float} (a : Accepted last t) (choices : Choices) where
   pub kept_system_requests : {maximum : Float} (s : SystemRequestsState) → KeptSystemRequests last maximum s → (input : SystemRequestInput)
-      → Between zero input.cooling_loop (decimal 1 1) → Between zero input.airflow_setpoint maximum → Between (neg HIGHEST_FLOW) input.discharge_airflow HIGHEST_FLOW → Between zero input.damper_position (decimal 1 1)
+      → Between zero input.cooling_loop (decimal 1 1) → Between zero input.airflow_setpoint maximum
+      → Between (neg HIGHEST_FLOW) input.discharge_airflow HIGHEST_FLOW → Between zero input.damper_position (decimal 1 1)
       → KeptSystemRequests (Some t) maximum (system_requests s t input choices).state
   unfolding system_requests
   kept_system_requests s k input loop setpoint flow damper = record {

@@ -1,13 +1,11 @@
 -- No integrator becomes -0.0: a sum is -0.0 only if both parts are, and a reset stores minus a number above 0, or 0.01 less one. Assumes nothing.
-use Rattle.std.proofs.Common.{refl, Bool, true, false, not, ◌&&◌, ◌||◌, T, subst, pos, negsuc, inl, if◌then◌else◌}
+use Rattle.std.proofs.Common.{refl, Bool, true, false, not, ◌&&◌, ◌||◌, T, subst, pos, negsuc, inl}
 use lib.Ieee.{Float, fin, binary64, round, neg, add, sub, mul, lt, eq, le, fits}
-use lib.Ieee.Fits.{add-fits, sub-fits, mul-fits, neg-fits}
-use Rattle.std.proofs.lemmas.Float.{le_trans, lt_of_lt_of_le, le_of_eq, eq_flip}
+use lib.Ieee.Fits.{add-fits, sub-fits, mul-fits, neg-fits, round-fits}
+use Rattle.std.proofs.lemmas.Float.{le_trans, lt_of_lt_of_le}
 use Rattle.f64_helpers.specs.F64.{◌⊕◌, ◌⊖◌, ◌⊗◌, ◌<ᶠ◌, ◌≤ᶠ◌, decimal, zero}
 use Rattle.f64_helpers.specs.Ranges.{Between, Finite, NotMinusZero}
-use Rattle.f64_helpers.proofs.Signs.{neg_neg}
-use Rattle.f64_helpers.proofs.Sums.{le_turned}
-use Rattle.f64_helpers.proofs.Intervals.{finite_between, times_larger, sub_in}
+use Rattle.f64_helpers.proofs.Intervals.{finite_between, times_larger}
 use Rattle.f64_helpers.proofs.LargeDifferences.{difference_from_128}
 use Rattle.cdl_recurrences.specs.CdlRecurrences.{less_hysteretic}
 use Rattle.cooling_only_controller_conditioning.specs.Conditioning.{loop_pi, TEMPERATURE_HYSTERESIS, CONTROL_GAIN}
@@ -26,36 +24,31 @@ use Rattle.bounds.specs.PublishedAgrees.{LoopReadingsHeld}
 use Rattle.bounds.proofs.Accepted.{Readings}
 use Rattle.bounds.specs.Limits.{COLDEST, HOTTEST}
 use Rattle.bounds.specs.Kept.{KeptLoopSign, KeptSigns}
-use Rattle.bounds.proofs.PublishedNumbers.{not_minus_zero, sum_not_minus_zero}
-
--- minus a number above 0
-opposite_sign : (p : Float) → T (zero <ᶠ p) → NotMinusZero (neg p)
-opposite_sign p h =
-    not_minus_zero (neg p) (λ e. none (lt_of_lt_of_le zero p (neg zero) h (subst (λ (z : Float). T (z ≤ᶠ neg zero)) (neg_neg p) (le_turned zero (neg p) (le_of_eq zero (neg p) (eq_flip (neg p) zero e))))))
-  where
-    none : T (zero <ᶠ neg zero) → ⊥
-    none k = unfold neg lt in k
+use Rattle.f64_helpers.proofs.SignedZeros.{opposite_sign, sum_not_minus_zero, decimal_sign, difference_not_minus_zero}
+use Rattle.f64_helpers.proofs.Tests.{yes}
+use Rattle.std.proofs.lemmas.Bool.{cond_both}
+use Rattle.bounds.proofs.PublishedBlocks.{Held}
+use Rattle.bounds.proofs.Loops.{error_in}
 
 -- of two temperatures, the one above the other
 module _ {above below : Float} (x : Between COLDEST above HOTTEST) (y : Between COLDEST below HOTTEST) (f : T (fits binary64 above)) (g : T (fits binary64 below)) (h : T (below <ᶠ above)) where
-  temperature_finite : {z : Float} → Between COLDEST z HOTTEST → Finite z
-  unfolding round
-  temperature_finite b = finite_between tt tt b
-
   from_128 : T (fin false 1 (pos 7) ≤ᶠ below)
   unfolding round le lt eq
   from_128 = le_trans (fin false 1 (pos 7)) COLDEST below tt y.from_low
 
   error_above : T (fin false 1 (negsuc 1063) ≤ᶠ above ⊖ below)
-  error_above = difference_from_128 above below f g (temperature_finite x) (temperature_finite y) from_128 h
+  unfolding round
+  error_above = difference_from_128 above below f g (finite_between tt tt x) (finite_between tt tt y) from_128 h
 
   error_finite : Finite (above ⊖ below)
   unfolding round neg add sub le lt eq
-  error_finite = let e : Between (neg (decimal 300 1)) (above ⊖ below) (decimal 300 1) = sub_in x y tt in finite_between tt tt e
+  error_finite = finite_between tt tt (error_in x y)
 
   proportional_above : T (zero <ᶠ CONTROL_GAIN ⊗ (above ⊖ below))
   unfolding round mul le lt eq
-  proportional_above = lt_of_lt_of_le zero (CONTROL_GAIN ⊗ fin false 1 (negsuc 1063)) (CONTROL_GAIN ⊗ (above ⊖ below)) tt (times_larger CONTROL_GAIN (fin false 1 (negsuc 1063)) (above ⊖ below) tt tt error_finite tt error_above)
+  proportional_above =
+      lt_of_lt_of_le zero (CONTROL_GAIN ⊗ fin false 1 (negsuc 1063)) (CONTROL_GAIN ⊗ (above ⊖ below)) tt
+      (times_larger CONTROL_GAIN (fin false 1 (negsuc 1063)) (above ⊖ below) tt tt error_finite tt error_above)
 
   reset_sign : NotMinusZero (neg (CONTROL_GAIN ⊗ (above ⊖ below)))
   reset_sign = opposite_sign (CONTROL_GAIN ⊗ (above ⊖ below)) proportional_above
@@ -73,30 +66,33 @@ rises below above previous h = go previous (below <ᶠ above) (below <ᶠ above 
     go true false true h = absurd h
     go true false false h = absurd h
 
+-- what is stored on a step that does not reset
+stepped : (integrator change : Float) → Held integrator → T (fits binary64 change) → Held (integrator ⊕ change)
+stepped integrator change h f = record { held = add-fits binary64 integrator change; not_minus_zero = sum_not_minus_zero integrator change h.held f (inl h.not_minus_zero) }
+
 -- ---- the loops
 
-held_if : (p : Bool) (x y : Float) → T (fits binary64 x) → T (fits binary64 y) → T (fits binary64 (if p then x else y))
-held_if true x y f g = f
-held_if false x y f g = g
-
-sign_if : (p : Bool) (x y : Float) → (T p → NotMinusZero x) → NotMinusZero y → NotMinusZero (if p then x else y)
-sign_if true x y f g = f tt
-sign_if false x y f g = g
-
-module _ {above below : Float} (x : Between COLDEST above HOTTEST) (y : Between COLDEST below HOTTEST) (f : T (fits binary64 above)) (g : T (fits binary64 below)) (s : LoopPiState) (enable : Bool) (k : KeptLoopSign enable s) (t : Float) where
+module _ {above below : Float} (x : Between COLDEST above HOTTEST) (y : Between COLDEST below HOTTEST) (f : T (fits binary64 above)) (g : T (fits binary64 below))
+    (s : LoopPiState) (enable : Bool) (k : KeptLoopSign enable s) (t : Float) where
   abbrev trigger : Bool
   trigger = less_hysteretic below above TEMPERATURE_HYSTERESIS enable
 
-  rises_here : T (trigger && not s.previous_trigger) → T (below <ᶠ above)
+  abbrev reset : Bool
+  reset = trigger && not s.previous_trigger
+
+  rises_here : T reset → T (below <ᶠ above)
   rises_here h = rises below above enable (subst (λ (b : Bool). T (trigger && not b)) k.trigger h)
+
+  next : Held (loop_pi s t (above ⊖ below) trigger).state.integrator
+  unfolding loop_pi
+  next =
+      cond_both reset _ _ Held
+      (λ e. record { held = neg-fits binary64 _ (mul-fits binary64 CONTROL_GAIN (above ⊖ below)); not_minus_zero = reset_sign x y f g (rises_here (yes e)) })
+      (λ e. stepped s.integrator _ (record { held = k.held; not_minus_zero = k.sign }) (mul-fits binary64 _ _))
 
   pub loop_signs : KeptLoopSign trigger (loop_pi s t (above ⊖ below) trigger).state
   unfolding loop_pi
-  loop_signs = record {
-    held = held_if (trigger && not s.previous_trigger) _ _ (neg-fits binary64 _ (mul-fits binary64 CONTROL_GAIN (above ⊖ below))) (add-fits binary64 s.integrator _);
-    sign = sign_if (trigger && not s.previous_trigger) _ _ (λ h. reset_sign x y f g (rises_here h)) (sum_not_minus_zero s.integrator _ k.held (mul-fits binary64 _ _) (inl k.sign));
-    trigger = refl;
-  }
+  loop_signs = record { held = next.held; sign = next.not_minus_zero; trigger = refl }
 
 -- ---- the box
 
@@ -109,27 +105,25 @@ signs_fresh = record {
   damper_sign = tt;
 }
 
--- 0.01 less a number
-lowered_sign : (z : Float) → T (fits binary64 z) → NotMinusZero (decimal 1 100 ⊖ z)
-unfolding sub round fits eq
-lowered_sign z f = sum_not_minus_zero (decimal 1 100) (neg z) tt (neg-fits binary64 z f) (inl tt)
-
-pub damper_signs : (s : DamperState) (t : Float) (input : DamperInput) (choices : Choices) → T (fits binary64 s.integrator) → NotMinusZero s.integrator
-    → T (fits binary64 (damper s t input choices).state.integrator) × NotMinusZero (damper s t input choices).state.integrator
+-- the damper's reset stores 0.01 less a number
+damper_held : (s : DamperState) (t : Float) (input : DamperInput) (choices : Choices) → Held s.integrator → Held (damper s t input choices).state.integrator
 unfolding damper
-damper_signs s t input choices f n = (
-  held_if (input.supply_fan_status && not s.previous_fan) _ _ (sub-fits binary64 (decimal 1 100) _) (add-fits binary64 s.integrator _),
-  sign_if (input.supply_fan_status && not s.previous_fan) _ _ (λ h. lowered_sign _ (mul-fits binary64 _ _)) (sum_not_minus_zero s.integrator _ f (mul-fits binary64 _ _) (inl n)),
-)
+damper_held s t input choices h =
+    cond_both (input.supply_fan_status && not s.previous_fan) _ _ Held
+    (λ e. record {
+      held = sub-fits binary64 (decimal 1 100) _;
+      not_minus_zero = difference_not_minus_zero (decimal 1 100) _ (round-fits binary64 false 1 100) (mul-fits binary64 _ _) (decimal_sign 1 100);
+    })
+    (λ e. stepped s.integrator _ h (mul-fits binary64 _ _))
 
 -- over an accepted tick
 pub next_signs : (box : AirBox) (k : Tick) → Readings k.input → LoopReadingsHeld k → KeptSigns box.state → KeptSigns (controller_step_of box k).state
 unfolding controller_output control_loops
 next_signs box k r h s =
-    let d = damper_signs box.state.dampers k.t _ box.choices s.damper_held s.damper_sign in
+    let d = damper_held box.state.dampers k.t _ box.choices (record { held = s.damper_held; not_minus_zero = s.damper_sign }) in
     record {
       cooling = loop_signs r.zone_temperature r.cooling_setpoint h.zone_temperature h.cooling_setpoint box.state.control_loops.cooling_pi box.state.control_loops.cooling_enable s.cooling k.t;
       heating = loop_signs r.heating_setpoint r.zone_temperature h.heating_setpoint h.zone_temperature box.state.control_loops.heating_pi box.state.control_loops.heating_enable s.heating k.t;
-      damper_held = d.0;
-      damper_sign = d.1;
+      damper_held = d.held;
+      damper_sign = d.not_minus_zero;
     }

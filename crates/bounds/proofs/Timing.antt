@@ -4,7 +4,7 @@ use lib.Ieee.{Float, round, add, lt, eq, le, is_nan}
 use Rattle.std.proofs.lemmas.Float.{le_refl, le_right}
 use Rattle.f64_helpers.specs.F64.{◌⊕◌, ◌⊖◌, ◌⊘◌, ◌>ᶠ◌, ◌≤ᶠ◌, ◌≥ᶠ◌, decimal, zero}
 use Rattle.f64_helpers.specs.Helpers.{abs, max, negative, as_f64}
-use Rattle.f64_helpers.proofs.SignBits.{sum_clear}
+use Rattle.f64_helpers.proofs.SignedZeros.{sum_clear}
 use Rattle.f64_helpers.specs.Seconds.{Whole, IsTime, seconds}
 use Rattle.f64_helpers.specs.Ranges.{Between, Finite}
 use Rattle.f64_helpers.proofs.Intervals.{finite_between, not_at_least, add_in, wider, inside, ends}
@@ -61,7 +61,8 @@ module _ {delay : Float} (l : Length delay) where
   at_end = (wider (record { from_low = l.from_zero; to_high = le_refl delay (le_right zero delay l.from_zero) }) l.within_sum, λ off. absurd (true≢false off), l.sign)
 
   -- the timer ran from one that had not run out
-  ran_on : (timer step : Float) → Between zero timer delay → negative timer ≡ false → Between zero step LONGEST_STEP → KeptOutput delay (record { output = timer ⊕ step ≥ᶠ delay; timer = timer ⊕ step })
+  ran_on : (timer step : Float) → Between zero timer delay → negative timer ≡ false → Between zero step LONGEST_STEP
+      → KeptOutput delay (record { output = timer ⊕ step ≥ᶠ delay; timer = timer ⊕ step })
   ran_on timer step r g s =
       let f = finite_between tt l.finite r in
       let h = finite_between tt longest_finite s in
@@ -74,7 +75,8 @@ module _ {delay : Float} (l : Length delay) where
 
   module _ (timer step : Float) (t : Between zero timer (delay ⊕ LONGEST_STEP)) (g : negative timer ≡ false) (s : Between zero step LONGEST_STEP) where
     later_output : (held previous : Bool) → (held ≡ false → T (timer ≤ᶠ delay))
-        → KeptOutput delay (if held then record { output = true; timer = delay } else (if not previous then record { output = delay ≤ᶠ zero; timer = zero } else record { output = timer ⊕ step ≥ᶠ delay; timer = timer ⊕ step }))
+        → KeptOutput delay (if held then record { output = true; timer = delay }
+        else (if not previous then record { output = delay ≤ᶠ zero; timer = zero } else record { output = timer ⊕ step ≥ᶠ delay; timer = timer ⊕ step }))
     later_output true previous r = at_end
     later_output false false r = at_zero (delay ≤ᶠ zero)
     later_output false true r = ran_on timer step (record { from_low = t.from_low; to_high = r refl }) g s
@@ -88,7 +90,8 @@ module _ {delay : Float} (l : Length delay) where
         subst (λ (d : Float). KeptOutput delay (if delay_on_init && (d >ᶠ zero) then record { output = false; timer = zero } else record { output = true; timer = d }))
         (sym l.larger) (first_output (delay_on_init && (delay >ᶠ zero)))
     output_in (Some p) true e =
-        subst (λ (d : Float). KeptOutput delay (if held then record { output = true; timer = d } else (if not previous_input then record { output = d ≤ᶠ zero; timer = zero } else record { output = timer ⊕ max (t ⊖ p) zero ≥ᶠ d; timer = timer ⊕ max (t ⊖ p) zero })))
+        subst (λ (d : Float). KeptOutput delay (if held then record { output = true; timer = d }
+        else (if not previous_input then record { output = d ≤ᶠ zero; timer = zero } else record { output = timer ⊕ max (t ⊖ p) zero ≥ᶠ d; timer = timer ⊕ max (t ⊖ p) zero })))
         (sym l.larger) (later_output timer (max (t ⊖ p) zero) r g (a.step p e) held previous_input runs)
 
   pub kept_true_delay : {last : Option Float} {t : Float} → Accepted last t → (s : TrueDelayState) → KeptTrueDelay last delay s → (input delay_on_init : Bool)
@@ -140,7 +143,12 @@ module _ {last : Option Float} {t : Float} (a : Accepted last t) {low high : Flo
   kept_sampler s k input i = go s.initialized (sample_due t s.t0 SAMPLE_PERIOD s.last_index).due
     where
       go : (started due : Bool)
-          → KeptSampler (Some t) low high (if not started then record { initialized = true; t0 = initial_sample_time t SAMPLE_PERIOD; last_index = sample_index t (initial_sample_time t SAMPLE_PERIOD) SAMPLE_PERIOD; held = input }
+          → KeptSampler (Some t) low high (if not started then record {
+            initialized = true;
+            t0 = initial_sample_time t SAMPLE_PERIOD;
+            last_index = sample_index t (initial_sample_time t SAMPLE_PERIOD) SAMPLE_PERIOD;
+            held = input;
+          }
           else (if due then record { initialized = true; t0 = s.t0; last_index = (sample_due t s.t0 SAMPLE_PERIOD s.last_index).index; held = input } else s))
           × Between low (if not started || due then input else s.held) high
       go false due = (record { grid = grid_starts a; held = i }, i)
@@ -157,7 +165,10 @@ module _ {last : Option Float} {t : Float} (a : Accepted last t) {low high : Flo
       go : (started due on_grid : Bool)
           → KeptDelayStep t low high (if not started then record {
             state = record {
-              initialized = true; t0 = initial_sample_time t SAMPLE_PERIOD; last_index = sample_index t (initial_sample_time t SAMPLE_PERIOD) SAMPLE_PERIOD; held = s.held;
+              initialized = true;
+              t0 = initial_sample_time t SAMPLE_PERIOD;
+              last_index = sample_index t (initial_sample_time t SAMPLE_PERIOD) SAMPLE_PERIOD;
+              held = s.held;
               staged = if on_grid then input else s.staged;
             };
             output = s.held;
@@ -178,7 +189,10 @@ unfolding timer_elapsed
 kept_timer s t input i k = go input s.previous_input
   where
     go : (input previous : Bool)
-        → KeptTimerStep (if input then record { state = record { entry_time = if input && not previous then Some t else s.entry_time; previous_input = input }; output = seconds_since (if input && not previous then Some t else s.entry_time) t }
+        → KeptTimerStep (if input then record {
+          state = record { entry_time = if input && not previous then Some t else s.entry_time; previous_input = input };
+          output = seconds_since (if input && not previous then Some t else s.entry_time) t;
+        }
         else record { state = record { entry_time = None; previous_input = input }; output = zero })
     go false previous = tt
     go true false = i

@@ -1,11 +1,11 @@
 -- Where `clamp` and the line of `buildings_line` lie. Assumes nothing.
-use Rattle.std.proofs.Common.{◌≡◌, Bool, true, false, cond, not, ◌&&◌, T}
-use lib.Ieee.{Float, binary64, round, add, sub, mul, div, lt, eq, le, is_nan}
+use Rattle.std.proofs.Common.{Bool, true, false, cond, not, T}
+use lib.Ieee.{Float, round, lt, eq, le}
 use Rattle.std.proofs.lemmas.Float.{le_refl, le_left, le_right, le_of_not-lt}
-use Rattle.f64_helpers.specs.F64.{◌⊕◌, ◌⊖◌, ◌⊗◌, ◌⊘◌, ◌<ᶠ◌, ◌≤ᶠ◌, decimal, zero}
-use Rattle.f64_helpers.specs.Ranges.{Between, is_finite, Finite}
-use Rattle.f64_helpers.proofs.Intervals.{finite_number}
-use Rattle.cdl_recurrences.specs.CdlRecurrences.{clamp, buildings_line}
+use Rattle.f64_helpers.specs.F64.{◌≤ᶠ◌, decimal, zero}
+use Rattle.f64_helpers.specs.Ranges.{Between, Finite}
+use Rattle.f64_helpers.proofs.Intervals.{finite_number, between}
+use Rattle.cdl_recurrences.specs.CdlRecurrences.{clamp}
 
 -- a number is limited to low .. high
 pub clamp_in : {low high : Float} (x : Float) → Finite x → T (low ≤ᶠ high) → Between low (clamp x low high) high
@@ -20,3 +20,12 @@ clamp_in {low} {high} x f h = go (lt x low) (lt high x) (le_of_not-lt x low (fin
 pub clamp_unit : (x : Float) → Finite x → Between zero (clamp x zero (decimal 1 1)) (decimal 1 1)
 unfolding round le lt eq
 clamp_unit x f = clamp_in x f tt
+
+-- 0 and 1 themselves
+pub unit_zero : Between zero zero (decimal 1 1)
+unfolding round le lt eq
+unit_zero = between tt
+
+pub unit_one : Between zero (decimal 1 1) (decimal 1 1)
+unfolding round le lt eq
+unit_one = between tt

@@ -82,7 +82,8 @@ module _ (f1 f2 one wide : Float) (n k : ℕ) (a : InUnits f2 n) (h : Held n) (b
 
   limited_in : (x : Float) → Between zero x one → Between zero (intercept ⊕ slope ⊗ x) f2
   limited_in x w =
-      rising_in intercept slope x one f2 (units_finite intercept (n - d.units) intercept_is) (units_finite slope d.units slope_is) (subst Finite (sym o) tt) (units_finite (slope ⊗ one) d.units rise_is)
+      rising_in intercept slope x one f2 (units_finite intercept (n - d.units) intercept_is) (units_finite slope d.units slope_is)
+      (subst Finite (sym o) tt) (units_finite (slope ⊗ one) d.units rise_is)
       (units_not_negative intercept (n - d.units) intercept_is) (units_not_negative slope d.units slope_is) w
       ((le_units (intercept ⊕ slope ⊗ one) f2 n n end_is a).1 (omega arith))
 

@@ -1,6 +1,6 @@
 -- Differences of f64 that are exact. An f64 not below 0 is a whole number of the smallest value, 2 ^ -1074: these are its units.
--- That number has at most 53 binary digits, and then zeros. The difference of two such is exact where it is at most the one taken away.
--- And for y from 0 to x, x less the rounded x - y is exact. Assumes nothing.
+-- That number has at most 53 binary digits, and then zeros. The difference of two such is held where it is at most the one taken away.
+-- And for y from 0 to x, what x less the rounded x - y leaves is held. Assumes nothing.
 use Rattle.std.proofs.Common.{◌≡◌, ℕ, zero, suc, ◌+◌, ◌-◌, ◌*◌, ◌^◌, ◌<◌, ◌≤◌, Bool, true, false, not, ◌||◌, T, leb, ◌⊎◌, ◌↔◌, ℤ, pos, sym, refl, ap, ◌∙◌, subst, inl, inr, le_of_lt, mul-le-mul_right, mul_assoc, mul_comm, mul_right_comm, add-mul, mul-pos, mul-one, zero-mul, arith, pow_pos, pow-add, le_of_mul-le-mul_right, leb→le, pow-suc}
 use native.Mathlib.Nat.{sub-add_cancel, mul-sub}
 use lib.Ieee.{Float, nan, inf, fin, binary64, emax, low, up, down, round, neg, sum, add, sub, mul, div, below, level, lt, eq, le, fits}
@@ -15,7 +15,7 @@ use Rattle.f64_helpers.proofs.Order.{plus}
 use Rattle.f64_helpers.proofs.Sums.{rounded, rounded_in_order, at_least_zero}
 use Rattle.f64_helpers.proofs.Values.{in_places}
 use Rattle.f64_helpers.proofs.Intervals.{finite_between}
-use Rattle.f64_helpers.proofs.WholeSeconds.{sizes}
+use Rattle.f64_helpers.proofs.WholeSeconds.{none, sizes}
 use Rattle.f64_helpers.proofs.Monotone.{mul_is, div_is}
 
 -- ---- units
@@ -26,7 +26,7 @@ one = 2 ^ low binary64
 pub limit : ℕ
 limit = 2 ^ (low binary64 + suc (emax binary64))
 
-one_pos : 0 < one
+pub one_pos : 0 < one
 unfolding one
 one_pos = pow_pos (low binary64)
 
@@ -49,11 +49,8 @@ units_finite nan n u = u
 units_finite (inf s) n u = u
 units_finite (fin s m e) n u = tt
 
--- nothing times c, and what is nothing once it is multiplied by a c above 0
-none : (n c : ℕ) → n ≡ 0 → n * c ≡ 0
-none n c h = ap (λ (x : ℕ). x * c) h ∙ zero-mul c
-
-no_units : (n c : ℕ) → 0 < c → n * c ≡ 0 → n ≡ 0
+-- what is nothing once it is multiplied by a c above 0
+pub no_units : (n c : ℕ) → 0 < c → n * c ≡ 0 → n ≡ 0
 no_units zero c C h = refl
 no_units (suc n) c C h = absurd (positive (suc n * c) (mul-pos (omega arith) C) h)
   where
@@ -122,21 +119,22 @@ once_in_order y z n k o p h =
     signs true true y z = omega (arith, none k one (z tt))
 
 -- ---- two floats in units, at the denominator of both
-left : (a c d n : ℕ) → a * one ≡ n * c → a * d * one ≡ n * (c * d)
-left a c d n h = mul_right_comm a d one ∙ ap (λ (x : ℕ). x * d) h ∙ mul_assoc n c d
+pub at_left : (a c d n : ℕ) → a * one ≡ n * c → a * d * one ≡ n * (c * d)
+at_left a c d n h = mul_right_comm a d one ∙ ap (λ (x : ℕ). x * d) h ∙ mul_assoc n c d
 
-right : (a c d n : ℕ) → a * one ≡ n * d → a * c * one ≡ n * (c * d)
-right a c d n h = left a d c n h ∙ ap (λ (x : ℕ). n * x) (mul_comm d c)
+pub at_right : (a c d n : ℕ) → a * one ≡ n * d → a * c * one ≡ n * (c * d)
+at_right a c d n h = at_left a d c n h ∙ ap (λ (x : ℕ). n * x) (mul_comm d c)
 
 at_one_scale : (P : Float → Float → Type 0) (n k : ℕ)
-    → ((s t : Bool) (m a : ℕ) (e d : ℤ) → 0 < down e * down d → m * up e * down d * one ≡ n * (down e * down d) → a * up d * down e * one ≡ k * (down e * down d) → (T s → n ≡ 0) → (T t → k ≡ 0) → P (fin s m e) (fin t a d))
+    → ((s t : Bool) (m a : ℕ) (e d : ℤ) → 0 < down e * down d → m * up e * down d * one ≡ n * (down e * down d) → a * up d * down e * one ≡ k * (down e * down d)
+    → (T s → n ≡ 0) → (T t → k ≡ 0) → P (fin s m e) (fin t a d))
     → (x y : Float) → InUnits x n → InUnits y k → P x y
 at_one_scale P n k f nan y u v = absurd u
 at_one_scale P n k f (inf s) y u v = absurd u
 at_one_scale P n k f (fin s m e) nan u v = absurd v
 at_one_scale P n k f (fin s m e) (inf t) u v = absurd v
 at_one_scale P n k f (fin s m e) (fin t a d) u v =
-    f s t m a e d (mul-pos (down_pos e) (down_pos d)) (left (m * up e) (down e) (down d) n u.0) (right (a * up d) (down e) (down d) k v.0) u.1 v.1
+    f s t m a e d (mul-pos (down_pos e) (down_pos d)) (at_left (m * up e) (down e) (down d) n u.0) (at_right (a * up d) (down e) (down d) k v.0) u.1 v.1
 
 -- ---- sums and differences
 -- of a float in units: what is added, and what is taken away, which is nothing
@@ -209,13 +207,13 @@ times_one : (x : Float) (n : ℕ) → InUnits x n → Once (mul binary64 x (fin 
 times_one nan n u = absurd u
 times_one (inf s) n u = absurd u
 times_one (fin s m e) n u =
-    subst (λ (z : Float). Once z n) (sym (mul_is s m e 1 (pos 0))) (round_units s (m * up e * 1) (down e * 1) n (mul-pos (down_pos e) (omega arith)) (left (m * up e) (down e) 1 n u.0) u.1)
+    subst (λ (z : Float). Once z n) (sym (mul_is s m e 1 (pos 0))) (round_units s (m * up e * 1) (down e * 1) n (mul-pos (down_pos e) (omega arith)) (at_left (m * up e) (down e) 1 n u.0) u.1)
 
 over_one : (x : Float) (n : ℕ) → InUnits x n → Once (div binary64 x (fin false 1 (pos 0))) n
 over_one nan n u = absurd u
 over_one (inf s) n u = absurd u
 over_one (fin s m e) n u =
-    subst (λ (z : Float). Once z n) (sym (div_is s m e 0 (pos 0))) (round_units s (m * up e * 1) (down e * 1) n (mul-pos (down_pos e) (omega arith)) (left (m * up e) (down e) 1 n u.0) u.1)
+    subst (λ (z : Float). Once z n) (sym (div_is s m e 0 (pos 0))) (round_units s (m * up e * 1) (down e * 1) n (mul-pos (down_pos e) (omega arith)) (at_left (m * up e) (down e) 1 n u.0) u.1)
 
 pub times_one_exact : (x : Float) (n : ℕ) → InUnits x n → Held n → InUnits (mul binary64 x (fin false 1 (pos 0))) n
 times_one_exact x n u h = once_held (mul binary64 x (fin false 1 (pos 0))) n (times_one x n u) h
@@ -356,14 +354,3 @@ difference x y n k u h v g l = go (leb (n - k) k) (leb→le (n - k) k) (nleb→l
       | inl s ↦ exact_difference (sub binary64 x y) n k o (few_digits (n - k) (omega (arith, s)) (omega (arith, h.under))) g l
       | inr s ↦ near_difference (sub binary64 x y) n (n - k) (sub-fits binary64 x y) o h s (omega (arith, s.twice, q tt)) (omega arith)
     ]
-
--- a difference that is at most what is taken away is exact
-pub close_exact : (x y : Float) (n k : ℕ) → InUnits x n → Held n → InUnits y k → Held k → k ≤ n → n - k ≤ k → InUnits (sub binary64 x y) (n - k)
-close_exact x y n k u h v g l c = sub_exact x y n k u v l (held_difference n k h g c)
-
--- x less the rounded difference of x and y is exact
-pub back_exact : (x y : Float) (n k : ℕ) → InUnits x n → Held n → InUnits y k → Held k → k ≤ n
-    → (m : ℕ) × InUnits (sub binary64 x y) m × InUnits (sub binary64 x (sub binary64 x y)) (n - m)
-back_exact x y n k u h v g l =
-    let d = difference x y n k u h v g l in
-    (d.units, d.is, sub_exact x (sub binary64 x y) n d.units u d.is d.at_most d.rest)

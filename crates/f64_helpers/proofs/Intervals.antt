@@ -1,19 +1,25 @@
 -- Ranges through the operations: what is rounded once from numbers in ranges lies in the range of the ends, rounded once. So the ranges of a longer formula are found by
 -- computing with its ends. A test compares the computed ends with those that are wanted; of literals it computes to an answer. Assumes nothing.
-use Rattle.std.proofs.Common.{arith, ◌||◌, ◌≡◌, refl, ℕ, ◌*◌, Bool, true, false, cond, not, if◌then◌else◌, ◌&&◌, T, ◌⊎◌, ℤ, pos, sym, ap, ◌∙◌, subst, inl, inr}
+use Rattle.std.proofs.Common.{◌≡◌, refl, ◌*◌, Bool, true, false, cond, not, if◌then◌else◌, ◌&&◌, T, ◌⊎◌, pos, sym, ap, ◌∙◌, subst, inl, inr, T_not}
 use lib.Ieee.{Float, nan, inf, fin, binary64, unlike, up, down, round, neg, mul, lt, eq, le, is_nan}
 use lib.Ieee.Fits.{and_l, and_r}
-use Rattle.std.proofs.lemmas.Float.{le_refl, le_trans, le_of_lt, lt_of_lt_of_le, le_of_not-lt}
+use Rattle.std.proofs.lemmas.Float.{le_trans, le_of_lt, lt_of_lt_of_le, le_of_not-lt}
 use Rattle.f64_helpers.specs.F64.{◌⊕◌, ◌⊖◌, ◌⊗◌, ◌⊘◌, ◌<ᶠ◌, ◌≤ᶠ◌, ◌≥ᶠ◌, zero}
-use Rattle.f64_helpers.specs.Helpers.{abs, max, min, negative}
+use Rattle.f64_helpers.specs.Helpers.{max, negative}
 use Rattle.f64_helpers.specs.Ranges.{Between, is_finite, Finite}
-use Rattle.f64_helpers.proofs.Order.{fractions, in_order, number_at_most}
+use Rattle.f64_helpers.proofs.Order.{in_order, number_at_most}
 use Rattle.f64_helpers.proofs.Sums.{le_turned, not_negative_turned, zeros_level}
 use Rattle.f64_helpers.proofs.Signs.{neg_neg}
 use Rattle.f64_helpers.proofs.Negation.{neg_round}
 use Rattle.f64_helpers.proofs.Monotone.{add_mono, sub_mono, mul_mono, mul_turned, div_mono, div_shrinks, neg_finite}
 
--- ---- what lies between two finite numbers is finite
+-- ---- what is finite is no NaN, and what lies between two finite numbers is finite
+pub finite_number : (x : Float) → Finite x → T (not (is_nan x))
+unfolding is_nan
+finite_number nan f = f
+finite_number (inf s) f = absurd f
+finite_number (fin s m e) f = tt
+
 no_number : (x : Float) → T (is_nan x) → (low : Float) → T (low ≤ᶠ x) → ⊥
 no_number x n low h = number_at_most low x (inr n) h
 
@@ -38,6 +44,10 @@ ends a b = is_finite a && is_finite b
 
 abbrev pub inside : Float → Float → Float → Float → Bool
 inside low a b high = (low ≤ᶠ a) && (b ≤ᶠ high)
+
+-- both tests of a range
+pub between : {low x high : Float} → T ((low ≤ᶠ x) && (x ≤ᶠ high)) → Between low x high
+between {low} {x} {high} t = record { from_low = and_l (low ≤ᶠ x) (x ≤ᶠ high) t; to_high = and_r (low ≤ᶠ x) (x ≤ᶠ high) t }
 
 ends_are : (a b : Float) → T (ends a b) → Finite a × Finite b
 ends_are a b h = (and_l (is_finite a) (is_finite b) h, and_r (is_finite a) (is_finite b) h)
@@ -168,43 +178,22 @@ if_in false x y h k = k
 -- x is at most k, or at least k
 pub at_most_or_least : (x k : Float) → Finite x → Finite k → T (x ≤ᶠ k) ⊎ T (k ≤ᶠ x)
 at_most_or_least x k f g = elim (in_order x k) [
-    | inl h ↦ inl h
-    | inr r ↦ elim r [
-        | inl h ↦ inr (le_of_lt k x h)
-        | inr n ↦ elim n [ inl a ↦ absurd (finite_number x f a) | inr b ↦ absurd (finite_number k g b) ]
-    ]
+  | inl h ↦ inl h
+  | inr r ↦ elim r [
+    | inl h ↦ inr (le_of_lt k x h)
+    | inr n ↦ elim n [ inl a ↦ absurd (T_not (is_nan x) (finite_number x f) a) | inr b ↦ absurd (T_not (is_nan k) (finite_number k g) b) ]
   ]
-  where
-    finite_number : (x : Float) → Finite x → T (is_nan x) → ⊥
-    finite_number nan f n = f
-    finite_number (inf s) f n = f
-    finite_number (fin s m e) f n = absurd (unfold is_nan in n)
+]
+
+-- either end of a range cut at k
+pub cut : {low x high : Float} (k : Float) → Finite low → Finite high → Finite k → Between low x high → Between low x k ⊎ Between k x high
+cut {low} {x} {high} k f g K b =
+    elim (at_most_or_least x k (finite_between f g b) K) [
+      | inl h ↦ inl (record { from_low = b.from_low; to_high = h })
+      | inr h ↦ inr (record { from_low = h; to_high = b.to_high })
+    ]
 
 -- ---- the helpers
-pub finite_number : (x : Float) → Finite x → T (not (is_nan x))
-unfolding is_nan
-finite_number nan f = f
-finite_number (inf s) f = absurd f
-finite_number (fin s m e) f = tt
-
-size_not_negative : (m : ℕ) (e : ℤ) → T (zero ≤ᶠ fin false m e)
-unfolding le
-size_not_negative m e = (fractions false false (0 * 1) (m * up e) 1 (down e)).1 (omega arith)
-
-abs_of : (a b high : Float) (x : Float) → Finite x → Between a x b → T (neg a ≤ᶠ high) → T (b ≤ᶠ high) → Between zero (abs x) high
-unfolding abs neg
-abs_of a b high nan f p h k = absurd f
-abs_of a b high (inf s) f p h k = absurd f
-abs_of a b high (fin false m e) f p h k = record { from_low = size_not_negative m e; to_high = le_trans (fin false m e) b high p.to_high k }
-abs_of a b high (fin true m e) f p h k = record { from_low = size_not_negative m e; to_high = le_trans (fin false m e) (neg a) high (le_turned a (fin true m e) p.from_low) h }
-
-pub abs_in : {a x b high : Float} → Between a x b → T (ends a b && ((neg a ≤ᶠ high) && (b ≤ᶠ high))) → Between zero (abs x) high
-abs_in {a} {x} {b} {high} p t =
-    let s = split (ends a b) ((neg a ≤ᶠ high) && (b ≤ᶠ high)) t in
-    let e = ends_are a b s.0 in
-    let h = split (neg a ≤ᶠ high) (b ≤ᶠ high) s.1 in
-    abs_of a b high x (finite_between e.0 e.1 p) p h.0 h.1
-
 zero_in : (s : Bool) (high : Float) → T (zero ≤ᶠ high) → Between zero (fin s 0 (pos 0)) high
 zero_in s high h = record { from_low = zeros_level false s; to_high = le_trans (fin s 0 (pos 0)) zero high (zeros_level s false) h }
 
@@ -216,7 +205,8 @@ max_zero_in {a} {x} {b} {high} p t =
     let e = ends_are a b s.0 in
     let h = split (b ≤ᶠ high) (zero ≤ᶠ high) s.1 in
     let f = finite_between e.0 e.1 p in
-    go (is_nan x) (lt x zero) (eq x zero && eq zero zero) (le_trans x b high p.to_high h.0) (zero_in false high h.1) (zero_in (negative x && false) high h.1) (le_of_not-lt x zero (finite_number x f) (finite_number zero tt))
+    go (is_nan x) (lt x zero) (eq x zero && eq zero zero) (le_trans x b high p.to_high h.0) (zero_in false high h.1) (zero_in (negative x && false) high h.1)
+    (le_of_not-lt x zero (finite_number x f) (finite_number zero tt))
   where
     go : (n l z : Bool) → T (x ≤ᶠ high) → Between zero zero high → Between zero (fin (negative x && false) 0 (pos 0)) high → (T (not l) → T (zero ≤ᶠ x))
         → Between zero (cond n zero (cond l zero (cond z (fin (negative x && false) 0 (pos 0)) x))) high
@@ -224,22 +214,6 @@ max_zero_in {a} {x} {b} {high} p t =
     go false true z h o u k = o
     go false false true h o u k = u
     go false false false h o u k = record { from_low = k tt; to_high = h }
-
--- the smaller of an x that is not negative and c
-pub min_in : {x b : Float} → Between zero x b → (c : Float) → T (is_finite b && (is_finite c && (zero ≤ᶠ c))) → Between zero (min x c) c
-unfolding min
-min_in {x} {b} p c t =
-    let s = split (is_finite b) (is_finite c && (zero ≤ᶠ c)) t in
-    let h = split (is_finite c) (zero ≤ᶠ c) s.1 in
-    let f = finite_between {low = zero} tt s.0 p in
-    go (is_nan x) (lt c x) (eq x zero && eq c zero) (record { from_low = h.1; to_high = le_refl c (finite_number c h.0) }) (zero_in (negative x || negative c) c h.1) (le_of_not-lt c x (finite_number c h.0) (finite_number x f))
-  where
-    go : (n l z : Bool) → Between zero c c → Between zero (fin (negative x || negative c) 0 (pos 0)) c → (T (not l) → T (x ≤ᶠ c))
-        → Between zero (cond n c (cond l c (cond z (fin (negative x || negative c) 0 (pos 0)) x))) c
-    go true l z o u k = o
-    go false true z o u k = o
-    go false false true o u k = u
-    go false false false o u k = record { from_low = p.from_low; to_high = k tt }
 
 pub not_at_least : (x y : Float) → Finite x → Finite y → (x ≥ᶠ y) ≡ false → T (x ≤ᶠ y)
 not_at_least x y f g h = elim (at_most_or_least x y f g) [ inl k ↦ k | inr k ↦ absurd (subst T h k) ]

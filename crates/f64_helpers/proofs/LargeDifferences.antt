@@ -1,11 +1,11 @@
 -- The difference of two f64 from 128 on that are not equal: both are whole numbers of 2 ^ 10 units (of far more, but that is enough), so the rounded difference is not below that. Assumes nothing.
-use Rattle.std.proofs.Common.{◌≡◌, ap, ◌∙◌, negsuc, suc-mul, zero-mul, ℕ, zero, suc, ◌+◌, ◌-◌, ◌*◌, ◌^◌, ◌<◌, ◌≤◌, Bool, true, false, not, T, leb, ◌⊎◌, ℤ, pos, refl, sym, subst, inl, inr, le_trans, le_of_lt, lt_of_le_of_lt, lt_of_lt_of_le, mul-le-mul, mul-le-mul_right, one-mul, mul-one, eq-zero-or-pos, not-le_of_lt, arith, pow_mono, leb→le, lit≤, lit<}
-use lib.Ieee.{Float, nan, inf, fin, binary64, up, down, round, sub, lt, eq, le, fits}
+use Rattle.std.proofs.Common.{◌≡◌, ap, ◌∙◌, negsuc, suc-mul, zero-mul, ℕ, zero, suc, ◌-◌, ◌*◌, ◌^◌, ◌<◌, ◌≤◌, Bool, true, false, not, T, leb, pos, refl, sym, subst, inl, inr, le_trans, le_of_lt, lt_of_le_of_lt, mul-le-mul, one-mul, mul-one, eq-zero-or-pos, not-le_of_lt, arith, pow_mono, leb→le, lit≤, lit<}
+use lib.Ieee.{Float, fin, binary64, round, sub, lt, eq, le, fits}
 use lib.Dec.{nleb→lt}
 use Rattle.f64_helpers.specs.F64.{zero as zeroᶠ}
 use Rattle.f64_helpers.specs.Ranges.{Finite}
 use Rattle.f64_helpers.proofs.Order.{not_both}
-use Rattle.f64_helpers.proofs.ExactDifferences.{one, Held, InUnits, Units, Once, units_of, le_units, sub_once, once_in_order, in_steps, steps_less, rounded_once}
+use Rattle.f64_helpers.proofs.ExactDifferences.{one, Held, InUnits, Units, units_of, le_units, sub_once, once_in_order, in_steps, steps_less, rounded_once}
 use Rattle.std.proofs.lemmas.Float as Floats
 
 -- 53 digits and fewer than ten zeros
@@ -52,7 +52,9 @@ difference_in_units x y u v l h =
     let L : 2 ^ 7 * one ≤ k = (le_units (fin false 1 (pos 7)) y (2 ^ 7 * one) k units_128 v.is).0 l in
     let p = places_from_128 n u.held (le_trans L (le_of_lt K)) in
     let q = places_from_128 k v.held L in
-    let a : 2 ^ 10 ≤ n - k = apart n k (2 ^ 10) (u.held.digits * 2 ^ (u.held.places - 10)) (v.held.digits * 2 ^ (v.held.places - 10)) (in_steps n u.held.digits u.held.places 10 u.held.is p) (in_steps k v.held.digits v.held.places 10 v.held.is q) K in
+    let a : 2 ^ 10 ≤ n - k =
+    apart n k (2 ^ 10) (u.held.digits * 2 ^ (u.held.places - 10)) (v.held.digits * 2 ^ (v.held.places - 10))
+    (in_steps n u.held.digits u.held.places 10 u.held.is p) (in_steps k v.held.digits v.held.places 10 v.held.is q) K in
     subst (λ (z : Float). T (le z (sub binary64 x y))) smallest_is
     (once_in_order (round binary64 false (2 ^ 10) one) (sub binary64 x y) (2 ^ 10) (n - k) (rounded_once (2 ^ 10)) (sub_once x y n k u.is v.is (le_of_lt K)) a)
 
@@ -60,7 +62,8 @@ from_zero : (y : Float) → T (le (fin false 1 (pos 7)) y) → T (le zeroᶠ y)
 from_zero y h = Floats.le_trans zeroᶠ (fin false 1 (pos 7)) y (unfold le lt eq in tt) h
 
 -- 2 ^ -1064, of which the bounds' smallest gain still makes a number above 0
-pub difference_from_128 : (x y : Float) → T (fits binary64 x) → T (fits binary64 y) → Finite x → Finite y → T (le (fin false 1 (pos 7)) y) → T (lt y x) → T (le (fin false 1 (negsuc 1063)) (sub binary64 x y))
+pub difference_from_128 : (x y : Float) → T (fits binary64 x) → T (fits binary64 y) → Finite x → Finite y
+    → T (le (fin false 1 (pos 7)) y) → T (lt y x) → T (le (fin false 1 (negsuc 1063)) (sub binary64 x y))
 difference_from_128 x y f g X Y l h =
     let z = from_zero y l in
     difference_in_units x y (units_of x f X (Floats.le_trans zeroᶠ y x z (Floats.le_of_lt y x h))) (units_of y g Y z) l h

@@ -16,6 +16,7 @@ pub mod Sums
 pub mod Integers
 pub mod Monotone
 pub mod Intervals
-pub mod SignBits
+pub mod SignedZeros
+pub mod EqualNumbers
 pub mod ExactDifferences
 pub mod LargeDifferences

@@ -1,8 +1,9 @@
 -- Each operation keeps the order of what it is given: rounding keeps the order of fractions, and the exact results are in order. Assumes nothing.
-use Rattle.std.proofs.Common.{◌≡◌, ℕ, zero, suc, ◌+◌, ◌*◌, ◌<◌, ◌≤◌, Bool, true, false, not, T, ℤ, pos, sym, refl, ap, ◌∙◌, subst, mul-le-mul_right, zero-lt-suc, mul_assoc, mul_comm, mul_left_comm, add-mul, mul-pos, mul-zero, zero-mul, mul-le-mul_left, ltb→lt, arith}
+use Rattle.std.proofs.Common.{◌≡◌, ℕ, zero, suc, ◌+◌, ◌*◌, ◌<◌, ◌≤◌, Bool, true, false, not, T, ℤ, pos, sym, refl, ap, ◌∙◌, subst, mul-le-mul_right, zero-lt-suc, mul_assoc, mul_comm, mul_left_comm, add-mul, mul-pos, mul-zero, zero-mul, mul-le-mul_left, ltb→lt, arith, mul-one, one-mul}
 use lib.Ieee.{Float, nan, inf, fin, binary64, unlike, up, down, round, neg, sum, add, sub, mul, div, lt, le}
 use lib.Ieee.Fits.{down_pos, up_pos}
 use lib.Dec.{eqb-suc-zero}
+use lib.Ieee.Scale.{round_same}
 use Rattle.f64_helpers.specs.F64.{zero as zeroᶠ}
 use Rattle.f64_helpers.specs.Ranges.{Finite}
 use Rattle.f64_helpers.proofs.Order.{plus, plus_mul, fractions}
@@ -121,7 +122,9 @@ zero_products : (s : Bool) (m : ℕ) (e : ℤ) (s' : Bool) (m' : ℕ) (e' : ℤ)
     → T (le (mul binary64 (fin s m e) (fin true n d)) (mul binary64 (fin s' m' e') (fin true n d)))
 unfolding mul
 zero_products s m e s' m' e' n d z =
-    subst T (λ i. le (sym (nothing s true (m * up e) (n * up d) (down e * down d) z (mul-pos (down_pos e) (down_pos d))) i) (sym (nothing s' true (m' * up e') (n * up d) (down e' * down d) z (mul-pos (down_pos e') (down_pos d))) i))
+    subst T
+    (λ i. le (sym (nothing s true (m * up e) (n * up d) (down e * down d) z (mul-pos (down_pos e) (down_pos d))) i)
+    (sym (nothing s' true (m' * up e') (n * up d) (down e' * down d) z (mul-pos (down_pos e') (down_pos d))) i))
     (zeros_level (unlike s true) (unlike s' true))
 
 -- x at most x', and k not below 0
@@ -179,6 +182,17 @@ div_mono (fin s m e) (fin s' m' e') v f f' g p h =
     let a = above_zero v g p in
     subst (λ (v : Float). T (le (div binary64 (fin s m e) v) (div binary64 (fin s' m' e') v))) (sym a.is) (finite_div s m e s' m' e' a.size a.power h)
 
+-- a number above 0, over itself
+over_itself : (n : ℕ) (d : ℤ) → div binary64 (fin false (suc n) d) (fin false (suc n) d) ≡ round binary64 false 1 1
+over_itself n d =
+    let k = suc n * up d in
+    div_is false (suc n) d n d
+    ∙ round_same binary64 false (k * down d) (down d * k) 1 1 (mul-pos (down_pos d) (mul-pos (zero-lt-suc n) (up_pos d))) (zero-lt-suc 0)
+    (mul-one (k * down d) ∙ mul_comm k (down d) ∙ sym (one-mul (down d * k)))
+
+pub self_quotient : (x : Float) → Finite x → T (lt zeroᶠ x) → div binary64 x x ≡ round binary64 false 1 1
+self_quotient x f h = let a = above_zero x f h in subst (λ (x : Float). div binary64 x x ≡ round binary64 false 1 1) (sym a.is) (over_itself a.size a.power)
+
 -- ---- a divisor that grows
 -- v is at most w: n / r ≤ k / q. What stands over it grows smaller where it is not negative.
 over : (a b n k q r : ℕ) → n * q ≤ k * r → a * q * (b * n) ≤ a * r * (b * k)
@@ -235,6 +249,7 @@ div_shrinks x v w f g g' p h =
     let a = above_zero v g p in
     let b = above_zero w g' (lt_of_lt_of_le zeroᶠ v w p h) in
     let o = as_fractions (suc a.size) a.power (suc b.size) b.power (subst T (λ i. le (a.is i) (b.is i)) h) in
-    let r = over_larger x a.size a.power b.size b.power f o in
-    (λ q. subst T (λ i. le (div binary64 x (sym b.is i)) (div binary64 x (sym a.is i))) (r.0 q),
-    λ q. subst T (λ i. le (div binary64 x (sym a.is i)) (div binary64 x (sym b.is i))) (r.1 q))
+    let r = over_larger x a.size a.power b.size b.power f o in (
+      λ q. subst T (λ i. le (div binary64 x (sym b.is i)) (div binary64 x (sym a.is i))) (r.0 q),
+      λ q. subst T (λ i. le (div binary64 x (sym a.is i)) (div binary64 x (sym b.is i))) (r.1 q),
+    )

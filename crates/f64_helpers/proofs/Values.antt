@@ -57,7 +57,8 @@ in_places f s (suc m) e t =
       short = ltb→lt (suc m) (2 ^ prec f) (and_r odd_bit short (and_l (odd_bit && short) not_fine (and_l (odd_bit && short && not_fine) not_large t)));
       under =
           subst (λ (n : ℕ). suc m * 2 ^ p.places < n) (sym (pow-add 2 (suc (emax f)) (low f)) ∙ ap (λ (n : ℕ). 2 ^ n) (add_comm (suc (emax f)) (low f)))
-          (below_top (suc m) (up e) (2 ^ low f) (down e) (2 ^ p.places) (2 ^ suc (emax f)) (pow_pos (low f)) p.in_units (ltb→lt (suc m * up e) (2 ^ suc (emax f) * down e) (and_r (odd_bit && short && not_fine) not_large t)));
+          (below_top (suc m) (up e) (2 ^ low f) (down e) (2 ^ p.places) (2 ^ suc (emax f)) (pow_pos (low f)) p.in_units
+          (ltb→lt (suc m * up e) (2 ^ suc (emax f) * down e) (and_r (odd_bit && short && not_fine) not_large t)));
       in_units = mul_assoc (suc m) (up e) (2 ^ low f) ∙ ap (λ (n : ℕ). suc m * n) p.in_units ∙ sym (mul_assoc (suc m) (2 ^ p.places) (down e));
     }
 
@@ -99,7 +100,8 @@ pub zero_of_eq : (x : Float) → T (fits binary64 x) → T (eq x zeroᶠ) → x 
 unfolding eq
 zero_of_eq nan t h = absurd h
 zero_of_eq (inf s) t h = absurd h
-zero_of_eq (fin s m e) t h = zero_is s m e t (flat (m * up e * 1) (down e) (eqb→eq (m * up e * 1) (0 * 1 * down e) (and_l (eqb (m * up e * 1) (0 * 1 * down e)) (beq s false || eqb (m * up e * 1) 0) h)))
+zero_of_eq (fin s m e) t h =
+    zero_is s m e t (flat (m * up e * 1) (down e) (eqb→eq (m * up e * 1) (0 * 1 * down e) (and_l (eqb (m * up e * 1) (0 * 1 * down e)) (beq s false || eqb (m * up e * 1) 0) h)))
   where
     flat : (a b : ℕ) → a ≡ 0 * 1 * b → a ≡ 0
     flat a b h = omega arith

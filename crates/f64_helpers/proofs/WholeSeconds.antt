@@ -10,6 +10,7 @@ use lib.Ieee.Back.{round_whole}
 use lib.Ieee.Scale.{round_same}
 use Rattle.f64_helpers.specs.F64.{zero as zeroᶠ}
 use Rattle.f64_helpers.specs.Helpers.{max, negative}
+use Rattle.f64_helpers.specs.Ranges.{Finite}
 use Rattle.f64_helpers.specs.Seconds.{Whole, seconds, NotNegative, seconds_up}
 
 pub zero_whole : Whole zeroᶠ 0
@@ -20,6 +21,11 @@ pub of_value : (x : Float) (s : Bool) (n : ℕ) → HasValue x s n 1 → (T s �
 of_value nan s n v z = absurd v
 of_value (inf t) s n v z = absurd v
 of_value (fin t m e) s n v z = (sym (mul-one (m * up e)) ∙ v.1, λ q. z (subst T v.0 q))
+
+pub whole_finite : (x : Float) (n : ℕ) → Whole x n → Finite x
+whole_finite nan n v = v
+whole_finite (inf s) n v = v
+whole_finite (fin s m e) n v = tt
 
 -- a fraction a / c that is a whole number rounds to it
 pub round_to : (f : Format) (s : Bool) (a c n : ℕ) → 0 < c → n ≤ 2 ^ prec f → a ≡ n * c → (T s → n ≡ 0) → Whole (round f s a c) n
@@ -39,7 +45,7 @@ differ f s t a b c n C N p q = go (ltb a b) (ltb→lt a b) (nltb→le a b)
     go true h k = round_to f t (b - a) c n C N (p (h tt)).0 (p (h tt)).1
     go false h k = round_to f (s && ltb b a) (a - b) c n C N (q (k tt)).0 (q (k tt)).1
 
-none : (n c : ℕ) → n ≡ 0 → n * c ≡ 0
+pub none : (n c : ℕ) → n ≡ 0 → n * c ≡ 0
 none n c h = ap (λ (x : ℕ). x * c) h ∙ zero-mul c
 
 sum_whole : (f : Format) (s t : Bool) (a b c : ℕ) → 0 < c → a + b ≤ 2 ^ prec f → (T s → a ≡ 0) → (T t → b ≡ 0) → Whole (sum f s (a * c) t (b * c) c) (a + b)
@@ -80,7 +86,8 @@ right k de dd b h = ap (λ (x : ℕ). x * de) h ∙ mul_assoc b dd de ∙ ap (λ
 
 -- of two whole numbers, at the denominator of both
 at_one_scale : (P : Float → Float → Type 0) (a b : ℕ)
-    → ((s t : Bool) (m n : ℕ) (e d : ℤ) → 0 < down e * down d → m * up e * down d ≡ a * (down e * down d) → n * up d * down e ≡ b * (down e * down d) → (T s → a ≡ 0) → (T t → b ≡ 0) → P (fin s m e) (fin t n d))
+    → ((s t : Bool) (m n : ℕ) (e d : ℤ) → 0 < down e * down d → m * up e * down d ≡ a * (down e * down d) → n * up d * down e ≡ b * (down e * down d)
+    → (T s → a ≡ 0) → (T t → b ≡ 0) → P (fin s m e) (fin t n d))
     → (x y : Float) → Whole x a → Whole y b → P x y
 at_one_scale P a b f nan y v w = absurd v
 at_one_scale P a b f (inf s) y v w = absurd v
