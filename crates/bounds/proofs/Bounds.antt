@@ -82,11 +82,14 @@ flows_of_built choices b =
     let maximum = choices.design_cooling_maximum_flow in
     let h = and_l (within maximum (decimal 1 10) (decimal 10 1)) (within minimum zero maximum) b.within in
     let l = and_r (within maximum (decimal 1 10) (decimal 10 1)) (within minimum zero maximum) b.within in
-    record { minimum_held = b.minimum_held; maximum_held = b.maximum_held; minimum = between l; maximum = between h }
+    record { minimum_is_f64 = b.minimum_is_f64; maximum_is_f64 = b.maximum_is_f64; minimum = between l; maximum = between h }
+
+is_built : (start : Start) (second_reading : Bool) → Built (usual_size start second_reading)
+unfolding round fits le lt eq
+is_built start second_reading = record { within = tt; minimum_is_f64 = tt; maximum_is_f64 = tt }
 
 usual_flows : (start : Start) (second_reading : Bool) → FlowsIn (usual_size start second_reading)
-unfolding round fits le lt eq
-usual_flows start second_reading = record { minimum_held = tt; maximum_held = tt; minimum = between tt; maximum = between tt }
+usual_flows start second_reading = flows_of_built (usual_size start second_reading) (is_built start second_reading)
 
 usual_large : Between (decimal 15 10) (decimal 15 10) (decimal 10 1)
 unfolding round le lt eq
@@ -111,4 +114,5 @@ bounds =
       other_every_output = λ c b ticks k output e.
           output_numbers c.design_cooling_maximum_flow (maximum_finite c (flows_of_built c b)) output
           (grown_outputs c (flows_of_built c b) any_size (flows_of_built c b).maximum ticks k output e);
+      usual_built = is_built;
     }

@@ -19,14 +19,14 @@ use Rattle.bounds.proofs.Co2Line.{co2_loop_in}
 
 -- what is asked of the design flows of a box
 pub record FlowsIn (choices : Choices) : Type 0 where
-  pub minimum_held : T (fits binary64 choices.design_minimum_flow)
-  pub maximum_held : T (fits binary64 choices.design_cooling_maximum_flow)
+  pub minimum_is_f64 : T (fits binary64 choices.design_minimum_flow)
+  pub maximum_is_f64 : T (fits binary64 choices.design_cooling_maximum_flow)
   pub minimum : Between zero choices.design_minimum_flow choices.design_cooling_maximum_flow
   pub maximum : Between (decimal 1 10) choices.design_cooling_maximum_flow (decimal 10 1)
 
 -- an f64 from 0 to the maximum
 pub record Flow (maximum x : Float) : Type 0 where
-  pub held : T (fits binary64 x)
+  pub is_f64 : T (fits binary64 x)
   pub range : Between zero x maximum
 
 module _ (choices : Choices) (f : FlowsIn choices) where
@@ -47,27 +47,27 @@ module _ (choices : Choices) (f : FlowsIn choices) where
 
   pub no_flow : Flow M zero
   unfolding fits le lt eq
-  no_flow = record { held = tt; range = record { from_low = tt; to_high = maximum_from_zero.from_low } }
+  no_flow = record { is_f64 = tt; range = record { from_low = tt; to_high = maximum_from_zero.from_low } }
 
   pub chosen_flow : (p : Bool) (x y : Float) → Flow M x → Flow M y → Flow M (if p then x else y)
   chosen_flow true x y g h = g
   chosen_flow false x y g h = h
 
   -- the line from one flow to a larger one
-  line_held : (f1 f2 u : Float) → T (fits binary64 (buildings_line zero f1 (decimal 1 1) f2 u))
+  line_is_f64 : (f1 f2 u : Float) → T (fits binary64 (buildings_line zero f1 (decimal 1 1) f2 u))
   unfolding buildings_line
-  line_held f1 f2 u = add-fits binary64 _ _
+  line_is_f64 f1 f2 u = add-fits binary64 _ _
 
   pub flow_line : {f1 f2 : Float} → Flow M f1 → Flow M f2 → (u : Float) → Finite u → T (f1 ≤ᶠ f2) → Flow M (buildings_line zero f1 (decimal 1 1) f2 u)
   flow_line {f1} {f2} g h u v o =
-      let b = line_in f1 f2 u g.held h.held (finite_between tt maximum_finite g.range) (finite_between tt maximum_finite h.range) v g.range.from_low o in
-      record { held = line_held f1 f2 u; range = record { from_low = b.from_low; to_high = le_trans _ f2 M b.to_high h.range.to_high } }
+      let b = line_in f1 f2 u g.is_f64 h.is_f64 (finite_between tt maximum_finite g.range) (finite_between tt maximum_finite h.range) v g.range.from_low o in
+      record { is_f64 = line_is_f64 f1 f2 u; range = record { from_low = b.from_low; to_high = le_trans _ f2 M b.to_high h.range.to_high } }
 
   pub at_minimum : Flow M choices.design_minimum_flow
-  at_minimum = record { held = f.minimum_held; range = f.minimum }
+  at_minimum = record { is_f64 = f.minimum_is_f64; range = f.minimum }
 
   pub at_maximum : Flow M M
-  at_maximum = record { held = f.maximum_held; range = maximum_from_zero }
+  at_maximum = record { is_f64 = f.maximum_is_f64; range = maximum_from_zero }
 
   -- ---- `setpoints`
   module _ (s : SetpointsState) (input : SetpointInput) (setpoint : Between zero input.co2_setpoint HIGHEST_CO2) (co2 : Between zero input.co2_concentration HIGHEST_CO2) where

@@ -7,8 +7,7 @@ use Rattle.f64_helpers.specs.Ranges.{Between, is_finite, Finite}
 use Rattle.f64_helpers.proofs.Intervals.{ends, inside, around_zero, finite_between, add_in, sub_in, mul_in, mul_in_turned, div_by_in, cut}
 use Rattle.cdl_recurrences.specs.CdlRecurrences.{clamp}
 use Rattle.cdl_recurrences.proofs.Ranges.{clamp_unit}
-use Rattle.cooling_only_controller_conditioning.specs.Conditioning.{ANTI_WINDUP_NI}
-use Rattle.bounds.specs.Limits.{next_integrator}
+use Rattle.bounds.specs.Limits.{WINDUP_SHARE, next_integrator}
 
 abbrev one : Float
 one = decimal 1 1
@@ -16,7 +15,7 @@ one = decimal 1 1
 -- The error lies from a to b, the integrator from p to q, and the step from 0 to d.
 module _ (gain integral_time a b p q d : Float) where
   abbrev divisor : Float
-  divisor = gain ⊗ ANTI_WINDUP_NI
+  divisor = gain ⊗ WINDUP_SHARE
 
   abbrev rate : Float
   rate = gain ⊘ integral_time

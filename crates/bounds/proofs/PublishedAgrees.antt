@@ -20,7 +20,7 @@ use Rattle.bounds.specs.Kept.{KeptSigns}
 use Rattle.bounds.specs.Bounds.{grown, Built}
 use Rattle.bounds.specs.PublishedHelpers.{Helpers, document_01, published, RustMax, RustMin}
 use Rattle.bounds.specs.PublishedController.{controller_output_over}
-use Rattle.bounds.specs.PublishedAgrees.{decided_over, tick_over, LoopReadingsHeld, AllHeld, PublishedAgrees}
+use Rattle.bounds.specs.PublishedAgrees.{decided_over, tick_over, LoopReadingsAreF64, AllF64, PublishedAgrees}
 use Rattle.bounds.proofs.Accepted.{readings_in}
 use Rattle.bounds.proofs.Flows.{FlowsIn}
 use Rattle.bounds.proofs.Damper.{any_size}
@@ -38,13 +38,13 @@ accepted_state : (box : AirBox) (k : Tick) → (accepted_tick box k).state.state
 unfolding accepted_tick
 accepted_state box k = refl
 
-after_tick_signs : (box : AirBox) (k : Tick) → LoopReadingsHeld k → KeptSigns box.state → KeptSigns (tick box k).state.state
+after_tick_signs : (box : AirBox) (k : Tick) → LoopReadingsAreF64 k → KeptSigns box.state → KeptSigns (tick box k).state.state
 after_tick_signs box k h s =
     by_verdict box.last_time k
     (λ all. rw (tick_accepted box k all, accepted_state) (next_signs box k (readings_in box.last_time k all) h s))
     (λ reason first. rw (tick_refused box k reason first) s)
 
-after_ticks_signs : (box : AirBox) (ticks : List Tick) → AllHeld ticks → KeptSigns box.state → KeptSigns (box_after tick box ticks).state
+after_ticks_signs : (box : AirBox) (ticks : List Tick) → AllF64 ticks → KeptSigns box.state → KeptSigns (box_after tick box ticks).state
 after_ticks_signs box [] h s = s
 after_ticks_signs box (k ∷ ks) h s = after_ticks_signs (tick box k).state ks h.1 (after_tick_signs box k h.0 s)
 
@@ -80,7 +80,7 @@ module _ (max min : Float → Float → Float) (rust_max : RustMax max) (rust_mi
       (λ all. published_agrees max min rust_max rust_min box k
       (handed box (flows_of choices f any_size f.maximum box h.choices_kept) any_size (large_of choices f any_size f.maximum box h.choices_kept) h.kept s k all))
 
-  night : (box : AirBox) (ticks : List Tick) → AllHeld ticks → Keeps choices (decimal 512 1) box → KeptSigns box.state → steps_by (tick_over (published max min)) box ticks ≡ steps box ticks
+  night : (box : AirBox) (ticks : List Tick) → AllF64 ticks → Keeps choices (decimal 512 1) box → KeptSigns box.state → steps_by (tick_over (published max min)) box ticks ≡ steps box ticks
   night box [] a h s = refl
   night box (k ∷ ks) a h s =
       let step = tick box k in
@@ -90,10 +90,10 @@ module _ (max min : Float → Float → Float) (rust_max : RustMax max) (rust_mi
   fresh_keeps : Keeps choices (decimal 512 1) (unticked choices)
   fresh_keeps = grown_keeps choices f any_size f.maximum []
 
-  at_every_tick : (ticks : List Tick) → AllHeld ticks → (k : Tick) → tick_over (published max min) (grown choices ticks) k ≡ tick (grown choices ticks) k
+  at_every_tick : (ticks : List Tick) → AllF64 ticks → (k : Tick) → tick_over (published max min) (grown choices ticks) k ≡ tick (grown choices ticks) k
   at_every_tick ticks a k = here (grown choices ticks) k (grown_keeps choices f any_size f.maximum ticks) (after_ticks_signs (unticked choices) ticks a signs_fresh)
 
-  along_every_night : (ticks : List Tick) → AllHeld ticks → steps_by (tick_over (published max min)) (unticked choices) ticks ≡ steps (unticked choices) ticks
+  along_every_night : (ticks : List Tick) → AllF64 ticks → steps_by (tick_over (published max min)) (unticked choices) ticks ≡ steps (unticked choices) ticks
   along_every_night ticks a = night (unticked choices) ticks a fresh_keeps signs_fresh
 
 pub published_agree : PublishedAgrees

@@ -38,8 +38,8 @@ pub record Rust : Type 0 where
   pub min_is : RustMin min
 
 -- an f64 that is not -0.0, as an integrator or a flow
-pub record Held (x : Float) : Type 0 where
-  pub held : T (fits binary64 x)
+pub record NotMinusZeroF64 (x : Float) : Type 0 where
+  pub is_f64 : T (fits binary64 x)
   pub not_minus_zero : NotMinusZero x
 
 -- ---- `hysteresis`, where u is a number and the low end is not above the high end
@@ -224,19 +224,19 @@ module _ (r : Rust) where
           by_zero false e = larger r.max r.max_is zeroᶠ value zero_number (zero_beside value ∙ e) ∙ one_below value n (λ k. true≢false (sym (is_true (eq value zeroᶠ) k) ∙ e))
 
   -- So it is for a PI before its limits, whose integrator is not -0.0.
-  pub limits_same : (gain error integrator : Float) → Held integrator → Finite (gain ⊗ error ⊕ integrator)
+  pub limits_same : (gain error integrator : Float) → NotMinusZeroF64 integrator → Finite (gain ⊗ error ⊕ integrator)
       → published_clamp r.max r.min (gain ⊗ error ⊕ integrator) zeroᶠ (decimal 1 1) ≡ clamp (gain ⊗ error ⊕ integrator) zeroᶠ (decimal 1 1)
   limits_same gain error integrator kept f =
       clamp_same (gain ⊗ error ⊕ integrator) (finite_number (gain ⊗ error ⊕ integrator) f) (add-fits binary64 (gain ⊗ error) integrator)
-      (sum_not_minus_zero (gain ⊗ error) integrator (mul-fits binary64 gain error) kept.held (inr kept.not_minus_zero))
+      (sum_not_minus_zero (gain ⊗ error) integrator (mul-fits binary64 gain error) kept.is_f64 (inr kept.not_minus_zero))
 
   -- ---- the line, of which f2 is an f64 that is not -0.0
-  pub line_same : (x1 f1 x2 f2 u : Float) → Finite u → T (le x1 x2) → Held f2 → buildings_line_over (published r.max r.min) x1 f1 x2 f2 u ≡ buildings_line x1 f1 x2 f2 u
+  pub line_same : (x1 f1 x2 f2 u : Float) → Finite u → T (le x1 x2) → NotMinusZeroF64 f2 → buildings_line_over (published r.max r.min) x1 f1 x2 f2 u ≡ buildings_line x1 f1 x2 f2 u
   unfolding buildings_line_over buildings_line
   line_same x1 f1 x2 f2 u f h kept =
       let slope = (f2 ⊖ f1) ⊘ (x2 ⊖ x1) in
       sum_same (f2 ⊖ slope ⊗ x2) slope (published_clamp r.max r.min u x1 x2) (clamp u x1 x2)
-      (difference_not_minus_zero f2 (slope ⊗ x2) kept.held (mul-fits binary64 slope x2) kept.not_minus_zero) (clamp_equal u x1 x2 (finite_number u f) h)
+      (difference_not_minus_zero f2 (slope ⊗ x2) kept.is_f64 (mul-fits binary64 slope x2) kept.not_minus_zero) (clamp_equal u x1 x2 (finite_number u f) h)
 
 -- ---- the larger of a difference of times and 0.0, where the sign of a zero does not show
 module _ (max : Float → Float → Float) (rust : RustMax max) (d : Float) where

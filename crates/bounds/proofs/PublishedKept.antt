@@ -46,7 +46,7 @@ module _ (box : AirBox) (f : FlowsIn box.choices) {smallest error end : Float} (
     co2_concentration = finite_between tt tt inputs.co2_concentration;
     co2_band = le_of_lt _ _ (band k.input.co2_setpoint inputs.co2_setpoint);
     co2_loop = finite_between tt tt (co2_loop_in k.input.co2_setpoint k.input.co2_concentration inputs.co2_setpoint inputs.co2_concentration);
-    cooling_maximum = record { held = f.maximum_held; not_minus_zero = maximum_sign };
+    cooling_maximum = record { is_f64 = f.maximum_is_f64; not_minus_zero = maximum_sign };
   }
 
   started : {t0 : Float} → KeptGrid box.last_time t0 → Started t0 k.t
@@ -62,12 +62,12 @@ module _ (box : AirBox) (f : FlowsIn box.choices) {smallest error end : Float} (
       record {
         suppression = record { setpoint_grid = started p.setpoint_sampler.grid; previous_grid = started p.previous_sample.grid; startup_timer = timer_sign p.startup_delay };
         loops = record {
-          cooling_integrator = record { held = signs.cooling.held; not_minus_zero = signs.cooling.sign };
-          heating_integrator = record { held = signs.heating.held; not_minus_zero = signs.heating.sign };
+          cooling_integrator = record { is_f64 = signs.cooling.is_f64; not_minus_zero = signs.cooling.sign };
+          heating_integrator = record { is_f64 = signs.heating.is_f64; not_minus_zero = signs.heating.sign };
           cooling_timer = timer_sign l.cooling_delay;
           heating_timer = timer_sign l.heating_delay;
         };
-        damper_integrator = record { held = signs.damper_held; not_minus_zero = signs.damper_sign };
+        damper_integrator = record { is_f64 = signs.damper_is_f64; not_minus_zero = signs.damper_sign };
         requests = record {
           hot_three_timer = timer_sign r.hot_three_delay;
           hot_two_timer = timer_sign r.hot_two_delay;

@@ -36,7 +36,7 @@ use Rattle.air_box.specs.declared.Tick.{Tick}
 use Rattle.air_box.specs.declared.AirBox.{AirBox}
 use Rattle.bounds.specs.PublishedHelpers.{published, RustMax, RustMin}
 use Rattle.bounds.specs.PublishedController.{time_suppression_over, loop_pi_over, control_loops_over, setpoints_over, zone_states_over, damper_over, system_requests_over, alarms_over, controller_output_over}
-use Rattle.bounds.proofs.PublishedBlocks.{Rust, Held, Started, hysteresis_same, limits_same, line_same, delay_same, integral_same, sampler_same, unit_delay_same}
+use Rattle.bounds.proofs.PublishedBlocks.{Rust, NotMinusZeroF64, Started, hysteresis_same, limits_same, line_same, delay_same, integral_same, sampler_same, unit_delay_same}
 use Rattle.f64_helpers.proofs.SignedZeros.{decimal_sign}
 use mathlib.Core.Bool.{and-false}
 use Rattle.std.proofs.lemmas.Bool.{cond_both}
@@ -50,8 +50,8 @@ pub record SuppressionKept (s : TimeSuppressionState) (t : Float) : Type 0 where
   pub startup_timer : NotMinusZero s.startup_delay.timer
 
 pub record LoopsKept (s : ControlLoopsState) : Type 0 where
-  pub cooling_integrator : Held s.cooling_pi.integrator
-  pub heating_integrator : Held s.heating_pi.integrator
+  pub cooling_integrator : NotMinusZeroF64 s.cooling_pi.integrator
+  pub heating_integrator : NotMinusZeroF64 s.heating_pi.integrator
   pub cooling_timer : NotMinusZero s.cooling_delay.timer
   pub heating_timer : NotMinusZero s.heating_delay.timer
 
@@ -78,7 +78,7 @@ pub record AlarmsKept (s : AlarmsState) : Type 0 where
 pub record MemoriesKept (s : ControllerState) (t : Float) : Type 0 where
   pub suppression : SuppressionKept s.time_suppression t
   pub loops : LoopsKept s.control_loops
-  pub damper_integrator : Held s.dampers.integrator
+  pub damper_integrator : NotMinusZeroF64 s.dampers.integrator
   pub requests : RequestsKept s.system_requests t
   pub alarms : AlarmsKept s.alarms
 
@@ -90,7 +90,7 @@ pub record Ventilation (input : SetpointInput) (maximum : Float) : Type 0 where
   pub co2_concentration : Finite input.co2_concentration
   pub co2_band : T (input.co2_setpoint ⊖ decimal 200 1 ≤ᶠ input.co2_setpoint)
   pub co2_loop : Finite (co2_loop_at input)
-  pub cooling_maximum : Held maximum
+  pub cooling_maximum : NotMinusZeroF64 maximum
 
 -- today's signals at this tick: of the loops and of the damper also the PI before its limits
 abbrev pub loop_unlimited : LoopPiState → Float → Float
@@ -139,13 +139,13 @@ ranges : Ranges
 unfolding round neg le lt eq
 ranges = assumption tt
 
-held_decimal : (n d : ℕ) → Held (decimal n d)
-held_decimal n d = record { held = round-fits binary64 false n d; not_minus_zero = decimal_sign n d }
+decimal_is_f64 : (n d : ℕ) → NotMinusZeroF64 (decimal n d)
+decimal_is_f64 n d = record { is_f64 = round-fits binary64 false n d; not_minus_zero = decimal_sign n d }
 
-active_maximum : (mode : ℤ) (minimum : Float) (choices : Choices) → Held choices.design_cooling_maximum_flow → Held (active_airflow mode minimum choices).cooling_maximum
+active_maximum : (mode : ℤ) (minimum : Float) (choices : Choices) → NotMinusZeroF64 choices.design_cooling_maximum_flow → NotMinusZeroF64 (active_airflow mode minimum choices).cooling_maximum
 unfolding active_airflow fits
 active_maximum mode minimum choices maximum =
-    cond_both (le_z (pos 1) mode && le_z mode (pos 3)) choices.design_cooling_maximum_flow zero Held (λ e. maximum) (λ e. record { held = tt; not_minus_zero = tt })
+    cond_both (le_z (pos 1) mode && le_z mode (pos 3)) choices.design_cooling_maximum_flow zero NotMinusZeroF64 (λ e. maximum) (λ e. record { is_f64 = tt; not_minus_zero = tt })
 
 -- what a sampler gives is the input or the number that it holds
 sampled_finite : (s : SamplerState) (t input period : Float) → Finite s.held → Finite input → Finite (sampler_sample s t input period).output
@@ -170,7 +170,7 @@ module _ (r : Rust) where
       refl
 
   -- ---- the loops
-  loop_same : (s : LoopPiState) (t error : Float) (trigger : Bool) → Held s.integrator → Finite (loop_unlimited s error)
+  loop_same : (s : LoopPiState) (t error : Float) (trigger : Bool) → NotMinusZeroF64 s.integrator → Finite (loop_unlimited s error)
       → loop_pi_over (published r.max r.min) s t error trigger ≡ loop_pi s t error trigger
   unfolding loop_pi_over loop_pi
   loop_same s t error trigger kept n =
@@ -206,9 +206,9 @@ module _ (r : Rust) where
       let most = choices.design_cooling_maximum_flow in
       let least = choices.design_minimum_flow in
       rw (
-        line_same r low zero input.co2_setpoint one input.co2_concentration v.co2_concentration v.co2_band (held_decimal 1 1),
+        line_same r low zero input.co2_setpoint one input.co2_concentration v.co2_concentration v.co2_band (decimal_is_f64 1 1),
         line_same r zero least one most corrected corrected_finite ranges.unit v.cooling_maximum,
-        line_same r zero zero one (decimal 5 1000) corrected corrected_finite ranges.unit (held_decimal 5 1000),
+        line_same r zero zero one (decimal 5 1000) corrected corrected_finite ranges.unit (decimal_is_f64 5 1000),
       )
       refl
 
@@ -225,8 +225,8 @@ module _ (r : Rust) where
       refl
 
   -- ---- the damper
-  damper_same : (s : DamperState) (t : Float) (input : DamperInput) (choices : Choices) → Held s.integrator → Finite input.cooling_loop
-      → Held input.active_cooling_maximum_flow
+  damper_same : (s : DamperState) (t : Float) (input : DamperInput) (choices : Choices) → NotMinusZeroF64 s.integrator → Finite input.cooling_loop
+      → NotMinusZeroF64 input.active_cooling_maximum_flow
       → Finite (damper_unlimited s (damper s t input choices).output.airflow_setpoint input.discharge_airflow choices.design_cooling_maximum_flow)
       → damper_over (published r.max r.min) s t input choices ≡ damper s t input choices
   unfolding damper_over damper

@@ -20,14 +20,14 @@ use Rattle.cooling_only_controller.specs.Controller.{controller_output}
 use Rattle.air_box.specs.Demand2.{controller_step_of}
 use Rattle.air_box.specs.declared.Tick.{Tick}
 use Rattle.air_box.specs.declared.AirBox.{AirBox}
-use Rattle.bounds.specs.PublishedAgrees.{LoopReadingsHeld}
+use Rattle.bounds.specs.PublishedAgrees.{LoopReadingsAreF64}
 use Rattle.bounds.proofs.Accepted.{Readings}
 use Rattle.bounds.specs.Limits.{COLDEST, HOTTEST}
 use Rattle.bounds.specs.Kept.{KeptLoopSign, KeptSigns}
 use Rattle.f64_helpers.proofs.SignedZeros.{opposite_sign, sum_not_minus_zero, decimal_sign, difference_not_minus_zero}
 use Rattle.f64_helpers.proofs.Tests.{yes}
 use Rattle.std.proofs.lemmas.Bool.{cond_both}
-use Rattle.bounds.proofs.PublishedBlocks.{Held}
+use Rattle.bounds.proofs.PublishedBlocks.{NotMinusZeroF64}
 use Rattle.bounds.proofs.Loops.{error_in}
 
 -- of two temperatures, the one above the other
@@ -67,8 +67,8 @@ rises below above previous h = go previous (below <ᶠ above) (below <ᶠ above 
     go true false false h = absurd h
 
 -- what is stored on a step that does not reset
-stepped : (integrator change : Float) → Held integrator → T (fits binary64 change) → Held (integrator ⊕ change)
-stepped integrator change h f = record { held = add-fits binary64 integrator change; not_minus_zero = sum_not_minus_zero integrator change h.held f (inl h.not_minus_zero) }
+stepped : (integrator change : Float) → NotMinusZeroF64 integrator → T (fits binary64 change) → NotMinusZeroF64 (integrator ⊕ change)
+stepped integrator change h f = record { is_f64 = add-fits binary64 integrator change; not_minus_zero = sum_not_minus_zero integrator change h.is_f64 f (inl h.not_minus_zero) }
 
 -- ---- the loops
 
@@ -83,47 +83,47 @@ module _ {above below : Float} (x : Between COLDEST above HOTTEST) (y : Between 
   rises_here : T reset → T (below <ᶠ above)
   rises_here h = rises below above enable (subst (λ (b : Bool). T (trigger && not b)) k.trigger h)
 
-  next : Held (loop_pi s t (above ⊖ below) trigger).state.integrator
+  next : NotMinusZeroF64 (loop_pi s t (above ⊖ below) trigger).state.integrator
   unfolding loop_pi
   next =
-      cond_both reset _ _ Held
-      (λ e. record { held = neg-fits binary64 _ (mul-fits binary64 CONTROL_GAIN (above ⊖ below)); not_minus_zero = reset_sign x y f g (rises_here (yes e)) })
-      (λ e. stepped s.integrator _ (record { held = k.held; not_minus_zero = k.sign }) (mul-fits binary64 _ _))
+      cond_both reset _ _ NotMinusZeroF64
+      (λ e. record { is_f64 = neg-fits binary64 _ (mul-fits binary64 CONTROL_GAIN (above ⊖ below)); not_minus_zero = reset_sign x y f g (rises_here (yes e)) })
+      (λ e. stepped s.integrator _ (record { is_f64 = k.is_f64; not_minus_zero = k.sign }) (mul-fits binary64 _ _))
 
   pub loop_signs : KeptLoopSign trigger (loop_pi s t (above ⊖ below) trigger).state
   unfolding loop_pi
-  loop_signs = record { held = next.held; sign = next.not_minus_zero; trigger = refl }
+  loop_signs = record { is_f64 = next.is_f64; sign = next.not_minus_zero; trigger = refl }
 
 -- ---- the box
 
 pub signs_fresh : KeptSigns fresh_controller
 unfolding fits eq
 signs_fresh = record {
-  cooling = record { held = tt; sign = tt; trigger = refl };
-  heating = record { held = tt; sign = tt; trigger = refl };
-  damper_held = tt;
+  cooling = record { is_f64 = tt; sign = tt; trigger = refl };
+  heating = record { is_f64 = tt; sign = tt; trigger = refl };
+  damper_is_f64 = tt;
   damper_sign = tt;
 }
 
 -- the damper's reset stores 0.01 less a number
-damper_held : (s : DamperState) (t : Float) (input : DamperInput) (choices : Choices) → Held s.integrator → Held (damper s t input choices).state.integrator
+damper_held : (s : DamperState) (t : Float) (input : DamperInput) (choices : Choices) → NotMinusZeroF64 s.integrator → NotMinusZeroF64 (damper s t input choices).state.integrator
 unfolding damper
 damper_held s t input choices h =
-    cond_both (input.supply_fan_status && not s.previous_fan) _ _ Held
+    cond_both (input.supply_fan_status && not s.previous_fan) _ _ NotMinusZeroF64
     (λ e. record {
-      held = sub-fits binary64 (decimal 1 100) _;
+      is_f64 = sub-fits binary64 (decimal 1 100) _;
       not_minus_zero = difference_not_minus_zero (decimal 1 100) _ (round-fits binary64 false 1 100) (mul-fits binary64 _ _) (decimal_sign 1 100);
     })
     (λ e. stepped s.integrator _ h (mul-fits binary64 _ _))
 
 -- over an accepted tick
-pub next_signs : (box : AirBox) (k : Tick) → Readings k.input → LoopReadingsHeld k → KeptSigns box.state → KeptSigns (controller_step_of box k).state
+pub next_signs : (box : AirBox) (k : Tick) → Readings k.input → LoopReadingsAreF64 k → KeptSigns box.state → KeptSigns (controller_step_of box k).state
 unfolding controller_output control_loops
 next_signs box k r h s =
-    let d = damper_held box.state.dampers k.t _ box.choices (record { held = s.damper_held; not_minus_zero = s.damper_sign }) in
+    let d = damper_held box.state.dampers k.t _ box.choices (record { is_f64 = s.damper_is_f64; not_minus_zero = s.damper_sign }) in
     record {
       cooling = loop_signs r.zone_temperature r.cooling_setpoint h.zone_temperature h.cooling_setpoint box.state.control_loops.cooling_pi box.state.control_loops.cooling_enable s.cooling k.t;
       heating = loop_signs r.heating_setpoint r.zone_temperature h.heating_setpoint h.zone_temperature box.state.control_loops.heating_pi box.state.control_loops.heating_enable s.heating k.t;
-      damper_held = d.held;
+      damper_is_f64 = d.is_f64;
       damper_sign = d.not_minus_zero;
     }

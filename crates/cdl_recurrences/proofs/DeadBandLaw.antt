@@ -1,5 +1,4 @@
--- The law of a dead band: its output is on exactly if some reading turned it on and every newer reading kept it on. Beside it the law of two histories, and both for
--- the comparators of CdlRecurrences. Assumes nothing.
+-- The law of a dead band: its output is on exactly if some reading turned it on and every newer reading kept it on. Beside it the law of two histories, and both for the comparators of CdlRecurrences. Assumes nothing.
 use mathlib.Core.Path.{◌≡◌, refl, sym, ap, subst}
 use mathlib.Core.Logic.Iff
 use mathlib.Core.Logic.{◌↔◌, ◌⊎◌, inl, inr, ⊎_elim}
@@ -82,9 +81,7 @@ unfolding greater_hysteretic
 greater_hysteretic_law u2 h l = dead_band_law (λ u1. u1 >ᶠ u2) (λ u1. u1 >ᶠ u2 ⊖ h) (λ u1 p. lt_of_le_of_lt (u2 ⊖ h) u2 u1 l p)
 
 -- If no reading of the second history is lower than that of the first, then `greater_hysteretic` is on after the second if it is on after the first.
-pub greater_hysteretic_two_histories : (u2 h : Float) → T (u2 ⊖ h ≤ᶠ u2) → (us vs : List Float) → Related (λ u v. T (u ≤ᶠ v)) us vs
-    → T (greater_hysteretic_after u2 h us) → T (greater_hysteretic_after u2 h vs)
+pub greater_hysteretic_two_histories : (u2 h : Float) → T (u2 ⊖ h ≤ᶠ u2) → (us vs : List Float) → Related (λ u v. T (u ≤ᶠ v)) us vs → T (greater_hysteretic_after u2 h us) → T (greater_hysteretic_after u2 h vs)
 unfolding greater_hysteretic
 greater_hysteretic_two_histories u2 h l =
-    dead_band_two_histories (λ u1. u1 >ᶠ u2) (λ u1. u1 >ᶠ u2 ⊖ h) (λ u1 p. lt_of_le_of_lt (u2 ⊖ h) u2 u1 l p)
-    (λ u v. T (u ≤ᶠ v)) (λ u v r p. lt_of_lt_of_le u2 u v p r) (λ u v r p. lt_of_lt_of_le (u2 ⊖ h) u v p r)
+    dead_band_two_histories (λ u1. u1 >ᶠ u2) (λ u1. u1 >ᶠ u2 ⊖ h) (λ u1 p. lt_of_le_of_lt (u2 ⊖ h) u2 u1 l p) (λ u v. T (u ≤ᶠ v)) (λ u v r p. lt_of_lt_of_le u2 u v p r) (λ u v r p. lt_of_lt_of_le (u2 ⊖ h) u v p r)

@@ -1,5 +1,4 @@
--- The sample grid on whole seconds: rounding to six decimals leaves a whole number, the first sample instant is the last multiple of the period that is not after the
--- start, and the index counts the periods since. Assumes nothing.
+-- The sample grid on whole seconds: rounding to six decimals leaves a whole number, the first sample instant is the last multiple of the period that is not after the start, and the index counts the periods since. Assumes nothing.
 use mathlib.Core.Path.{◌≡◌, refl, ap, ◌∙◌, subst}
 use Prim.Native.Nat.{ℕ, ◌+◌, ◌-◌, ◌*◌, ◌/◌, ◌^◌, ◌≤◌, ◌<◌}
 use native.Mathlib.Nat.{le_trans, mul-one, add-mul, mul-mul-mul_comm, mul-pos, zero-lt-suc, div-le_self, div-mul-le_self, add-mul-div_right, le-div_iff_mul-le, le_refl, le_antisymm, eq-zero-or-pos}
@@ -179,6 +178,4 @@ module _ (period : Float) (p : ℕ) (w : Whole period p) (P : 0 < p) (Q : p ≤ 
     grid_sampled = record { first = c.first; starts = c.starts; begun = le_trans c.begun later; counted = index_is }
 
     pub grid_kept : n / p ≤ m / p → OnGrid p t0 last n
-    grid_kept h =
-        let e : m / p ≡ n / p = le_antisymm later h in
-        record { first = c.first; starts = c.starts; begun = le_trans c.begun later; counted = c.counted ∙ ap (λ (z : ℕ). pos (z - c.first)) e }
+    grid_kept h = let e : m / p ≡ n / p = le_antisymm later h in record { first = c.first; starts = c.starts; begun = le_trans c.begun later; counted = c.counted ∙ ap (λ (z : ℕ). pos (z - c.first)) e }

@@ -1,10 +1,10 @@
 pub mod Tests
-pub mod Values
+mod Values
 mod Casts
 mod Floors
-pub mod Negation
+mod Negation
 mod LargerOfTwo
-pub mod Signs
+mod Signs
 mod WholeTest
 pub mod Times
 pub mod Meaning

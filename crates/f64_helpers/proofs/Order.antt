@@ -1,5 +1,4 @@
--- The order of all floats, a NaN, the infinities and zeros of either sign included: `<` and `<=` pass from one pair to the next, and of two numbers one is less
--- exactly if the other is not at most it. Assumes nothing.
+-- The order of all floats, a NaN, the infinities and zeros of either sign included: `<` and `<=` pass from one pair to the next, and of two numbers one is less exactly if the other is not at most it. Assumes nothing.
 use Rattle.std.proofs.Common.{◌≡◌, ℕ, ◌+◌, ◌*◌, ◌≤◌, Bool, true, false, cond, not, ◌||◌, T, ltb, ◌⊎◌, ◌↔◌, sym, refl, subst, inl, inr, ⊎_elim, zero-mul, arith, ltb→lt, nltb→le, T_not}
 use lib.Dec.{not_T}
 use Rattle.std.proofs.lemmas.Bool.Decides.{nat_tests}

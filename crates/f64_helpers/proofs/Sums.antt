@@ -144,10 +144,7 @@ module _ (s : Bool) (a g : ℕ) (t : Bool) (b k : ℕ) (G : 0 < g) (K : 0 < k) w
   sum_below h =
       subst (λ (z : Float). T (le z (round binary64 s a g))) (sym together.once)
       (rounded_in_order together.sign s together.size a (g * k) g (mul-pos G K) G
-      (omega (
-        arith,
-        moved (plus (not s) a) (plus s a) (plus (not t) b * g) (plus t b * g) (plus (not together.sign) together.size) (plus together.sign together.size) g k (sym scaled) (mul-le-mul_right g h),
-      )))
+      (omega (arith, moved (plus (not s) a) (plus s a) (plus (not t) b * g) (plus t b * g) (plus (not together.sign) together.size) (plus together.sign together.size) g k (sym scaled) (mul-le-mul_right g h))))
 
 -- ---- adding what is not negative, and what is not positive, to an f64
 pub at_least_zero : (t : Bool) (n : ℕ) (d : ℤ) → T (le zeroᶠ (fin t n d)) → plus (not t) (n * up d) ≤ plus t (n * up d)

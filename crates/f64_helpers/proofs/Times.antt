@@ -1,5 +1,4 @@
--- Times, the whole numbers of seconds from 0 to 2,147,483,648: the literals, what the test `is_time` means, and that the code decides it by comparisons with both
--- ends and by 2 ^ 52 added and taken off again. Assumes nothing.
+-- Times, the whole numbers of seconds from 0 to 2,147,483,648: the literals, what the test `is_time` means, and that the code decides it by comparisons with both ends and by 2 ^ 52 added and taken off again. Assumes nothing.
 use Rattle.std.proofs.Common.{◌≡◌, ℕ, ◌+◌, ◌-◌, ◌*◌, ◌/◌, ◌%◌, ◌^◌, ◌≤◌, Bool, true, false, ◌&&◌, T, eqb, ◌↔◌, ℤ, pos, negsuc, sym, refl, ap, ◌∙◌, subst, zero-lt-suc, mul-pos, div-add-mod', zero-mul, mul-one, mul_right_comm, arith, le→leb, eqb→eq, leb→le}
 use native.Mathlib.Nat.{mul-mod_left, zero-div, eq_of_mul-eq-mul_right}
 use lib.Dec.{eqb_refl}
@@ -107,8 +106,7 @@ whole_by_room (inf s) p h = absurd (not_infinite s p)
     not_infinite : (s : Bool) → T (in_range (inf s)) → ⊥
     not_infinite true p = unfold le lt eq in p
     not_infinite false p = unfold round le lt eq in p
-whole_by_room (fin true m e) p h =
-    is_whole_if_whole (fin true m e) 0 (zero_if_negative m e (and_l (zero ≤ᶠ fin true m e) (fin true m e ≤ᶠ decimal 2147483648 1) p) ∙ sym (zero-mul (down e)), λ q. refl)
+whole_by_room (fin true m e) p h = is_whole_if_whole (fin true m e) 0 (zero_if_negative m e (and_l (zero ≤ᶠ fin true m e) (fin true m e ≤ᶠ decimal 2147483648 1) p) ∙ sym (zero-mul (down e)), λ q. refl)
 whole_by_room (fin false m e) p h =
     let x = fin false m e in
     let y = large_whole (x ⊕ room) (add-fits binary64 x room) (with_room m e (and_r (zero ≤ᶠ x) (x ≤ᶠ decimal 2147483648 1) p)) in

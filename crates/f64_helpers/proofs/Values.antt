@@ -14,11 +14,11 @@ use Rattle.f64_helpers.specs.Helpers.{negative}
 pow_back : (a b : ℕ) → 2 ^ a ≤ 2 ^ b → a ≤ b
 pow_back a b h = le_of_suc-le-suc (lt_of_not-le (λ (g : suc b ≤ a). not-le_of_lt (pow-lt g) h))
 
-pub record Places (f : Format) (e : ℤ) : Type 0 where
+record Places (f : Format) (e : ℤ) : Type 0 where
   pub places : ℕ
   pub in_units : up e * 2 ^ low f ≡ 2 ^ places * down e
 
-pub places_of : (f : Format) (e : ℤ) → down e ≤ 2 ^ low f → Places f e
+places_of : (f : Format) (e : ℤ) → down e ≤ 2 ^ low f → Places f e
 places_of f (pos k) h = record { places = k + low f; in_units = sym (pow-add 2 k (low f)) ∙ sym (mul-one (2 ^ (k + low f))) }
 places_of f (negsuc k) h = record {
   places = low f - suc k;
@@ -100,8 +100,7 @@ pub zero_of_eq : (x : Float) → T (fits binary64 x) → T (eq x zeroᶠ) → x 
 unfolding eq
 zero_of_eq nan t h = absurd h
 zero_of_eq (inf s) t h = absurd h
-zero_of_eq (fin s m e) t h =
-    zero_is s m e t (flat (m * up e * 1) (down e) (eqb→eq (m * up e * 1) (0 * 1 * down e) (and_l (eqb (m * up e * 1) (0 * 1 * down e)) (beq s false || eqb (m * up e * 1) 0) h)))
+zero_of_eq (fin s m e) t h = zero_is s m e t (flat (m * up e * 1) (down e) (eqb→eq (m * up e * 1) (0 * 1 * down e) (and_l (eqb (m * up e * 1) (0 * 1 * down e)) (beq s false || eqb (m * up e * 1) 0) h)))
   where
     flat : (a b : ℕ) → a ≡ 0 * 1 * b → a ≡ 0
     flat a b h = omega arith

@@ -86,8 +86,7 @@ right k de dd b h = ap (λ (x : ℕ). x * de) h ∙ mul_assoc b dd de ∙ ap (λ
 
 -- of two whole numbers, at the denominator of both
 at_one_scale : (P : Float → Float → Type 0) (a b : ℕ)
-    → ((s t : Bool) (m n : ℕ) (e d : ℤ) → 0 < down e * down d → m * up e * down d ≡ a * (down e * down d) → n * up d * down e ≡ b * (down e * down d)
-    → (T s → a ≡ 0) → (T t → b ≡ 0) → P (fin s m e) (fin t n d))
+    → ((s t : Bool) (m n : ℕ) (e d : ℤ) → 0 < down e * down d → m * up e * down d ≡ a * (down e * down d) → n * up d * down e ≡ b * (down e * down d) → (T s → a ≡ 0) → (T t → b ≡ 0) → P (fin s m e) (fin t n d))
     → (x y : Float) → Whole x a → Whole y b → P x y
 at_one_scale P a b f nan y v w = absurd v
 at_one_scale P a b f (inf s) y v w = absurd v
