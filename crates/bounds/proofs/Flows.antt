@@ -1,4 +1,4 @@
--- Where the ventilation setpoints, the active airflow and the airflow setpoint lie. Assumes nothing.
+-- Where the ventilation setpoints lie, and the line from one flow to a larger one. Assumes nothing.
 use Rattle.std.proofs.Common.{Bool, true, false, T, if◌then◌else◌}
 use lib.Ieee.{Float, binary64, round, neg, add, div, lt, eq, le, fits}
 use lib.Ieee.Fits.{add-fits}

@@ -60,7 +60,7 @@ pub record Bounds : Type 0 where
   pub every_number : (start : Start) (second_reading : Bool) (ticks : List Tick) → BoxNumbers (grown (usual_size start second_reading) ticks)
   pub every_output : (start : Start) (second_reading : Bool) (ticks : List Tick) (k : Tick) (output : ControllerOutput)
       → given_for (grown (usual_size start second_reading) ticks) k ≡ inl output → OutputNumbers output
-  -- The same of a box of any size that building takes, with its own cooling maximum. 512 is wide: the damper's reset alone reaches 50.5.
+  -- The same of a box of any size that building takes, with its own cooling maximum. 512 is wide: the damper's reset reaches -50.49.
   pub other_integrators : (choices : Choices) → Built choices → (ticks : List Tick) → IntegratorsInBounds (decimal 512 1) (grown choices ticks)
   pub other_outputs : (choices : Choices) → Built choices → (ticks : List Tick) (k : Tick) (output : ControllerOutput)
       → given_for (grown choices ticks) k ≡ inl output → OutputsInBounds choices.design_cooling_maximum_flow output

@@ -1,4 +1,4 @@
--- Where `clamp` and the line of `buildings_line` lie. Assumes nothing.
+-- Where `clamp` lies. Assumes nothing.
 use Rattle.std.proofs.Common.{Bool, true, false, cond, not, T}
 use lib.Ieee.{Float, round, lt, eq, le}
 use Rattle.std.proofs.lemmas.Float.{le_refl, le_left, le_right, le_of_not-lt}

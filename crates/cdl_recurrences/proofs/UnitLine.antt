@@ -1,4 +1,4 @@
--- The line of `buildings_line` from x1 = 0 to x2 = 1 stays from 0 to f2, for any finite f1 and f2 with 0 <= f1 <= f2, though each operation is rounded.
+-- The line of `buildings_line` from x1 = 0 to x2 = 1 stays from 0 to f2, for any two finite f64 f1 and f2 with 0 <= f1 <= f2, though each operation is rounded.
 -- The slope is f2 - f1 rounded, and f2 less that slope is exact. So at 1 the line is f2, and before 1 it is no larger. Assumes nothing.
 use Rattle.std.proofs.Common.{arith, ◌≡◌, ◌+◌, ◌-◌, ◌≤◌, false, T, ℕ, pos, sym, refl, subst}
 use native.Mathlib.Nat.{sub-add_cancel}
