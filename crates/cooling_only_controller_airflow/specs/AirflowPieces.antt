@@ -5,9 +5,10 @@
 use Rattle.std.specs.Prelude.{Bool, ◌&&◌, ℤ, pos, Float, if◌then◌else◌}
 use Rattle.f64_helpers.specs.F64.{◌⊗◌, decimal, zero}
 use Rattle.f64_helpers.specs.Integers.{◌==ᶻ◌}
-use Rattle.cdl_recurrences.specs.CdlRecurrences.{buildings_line, greater_hysteretic}
+use Rattle.cdl_recurrences.specs.CdlRecurrences.{buildings_line, greater_hysteretic, less_hysteretic, dead_band_output}
+use Rattle.cdl_recurrences.specs.declared.DeadBandOutput.{DeadBandOutput}
 use Rattle.box_choices.specs.declared.Choices.{Choices}
-use Rattle.cooling_only_controller_airflow.specs.Airflow.{FLOW_HYSTERESIS, system_requests, alarms}
+use Rattle.cooling_only_controller_airflow.specs.Airflow.{FLOW_HYSTERESIS, DAMPER_POSITION_HYSTERESIS, system_requests, alarms}
 use Rattle.cooling_only_controller_airflow.specs.declared.DamperInput.{DamperInput}
 use Rattle.cooling_only_controller_airflow.specs.declared.SystemRequestInput.{SystemRequestInput}
 use Rattle.cooling_only_controller_airflow.specs.declared.SystemRequestsState.{SystemRequestsState}
@@ -143,6 +144,15 @@ sensor_leak s t input choices =
       leak_delay = whole.state.leak_delay;
       leaking_damper = whole.output.leaking_damper;
     }
+
+-- `flow_high` and `damper_closed` of `alarms`, each with whether memory decided it
+abbrev pub flow_high : Float → Choices → Bool → DeadBandOutput
+flow_high discharge_airflow choices =
+    dead_band_output (greater_hysteretic discharge_airflow (decimal 1 10 ⊗ choices.design_cooling_maximum_flow) FLOW_HYSTERESIS)
+
+abbrev pub damper_closed : Float → Bool → DeadBandOutput
+damper_closed damper_position =
+    dead_band_output (less_hysteretic damper_position DAMPER_POSITION_HYSTERESIS (decimal 5 10 ⊗ DAMPER_POSITION_HYSTERESIS))
 
 -- The alarms put together
 abbrev pub alarms_step : LowAirflowStep → SensorLeakStep → Step AlarmsState AlarmOutput

@@ -8,7 +8,7 @@ ghost use Rattle.cooling_only_controller_airflow.specs.Airflow as Airflow;
 ghost use Rattle.cooling_only_controller_airflow.specs.AirflowPieces as AirflowPieces;
 
 use box_choices::Choices;
-use cdl_recurrences::{greater_hysteretic, hysteresis, less_hysteretic};
+use cdl_recurrences::{DeadBandOutput, greater_hysteretic, hysteresis, less_hysteretic};
 use cooling_only_controller_timing::{SamplerState, Step, TrueDelayState};
 use f64_helpers::choose;
 
@@ -493,14 +493,7 @@ impl AlarmsState {
     {
         let occupied = input.operation_mode == 1;
         let fan = input.supply_fan_status;
-        let limit = 0.1 * choices.design_cooling_maximum_flow;
-        let flow_high = greater_hysteretic(
-            input.discharge_airflow,
-            limit,
-            FLOW_HYSTERESIS,
-            self.flow_high,
-        )
-        .output;
+        let flow_high = flow_high(input.discharge_airflow, choices, self.flow_high).output;
         // In the second reading the delay runs on the fan alone, and flow has to be high at this tick.
         let second = choices.second_reading;
         let sensor_held = self
@@ -508,13 +501,7 @@ impl AlarmsState {
             .output(t, (second | flow_high) & !fan, 600.0, choices.quiet);
         let sensor_on = sensor_held.output & (!second | flow_high);
         let airflow_sensor = choose(sensor_on & occupied, 3, 0);
-        let damper_closed = less_hysteretic(
-            input.damper_position,
-            DAMPER_POSITION_HYSTERESIS,
-            0.5 * DAMPER_POSITION_HYSTERESIS,
-            self.damper_closed,
-        )
-        .output;
+        let damper_closed = damper_closed(input.damper_position, self.damper_closed).output;
         let leaking = fan & damper_closed & flow_high;
         let leak_held = self.leak_delay.output(t, leaking, 600.0, choices.quiet);
         let leaking_damper = choose(leak_held.output, 4, 0);
@@ -527,6 +514,28 @@ impl AlarmsState {
             leaking_damper,
         }
     }
+}
+
+// Whether flow is high, above a tenth of the cooling maximum, and whether memory decided that. The box tells it beside the reason for no alarm.
+#[tactic(auto, using(cooling_only_controller_timing::proofs::Literals::literals))]
+pub fn flow_high(discharge_airflow: f64, choices: Choices, previous: bool) -> DeadBandOutput
+    ensures { result ≡ AirflowPieces.flow_high discharge_airflow choices previous }
+{
+    let limit = 0.1 * choices.design_cooling_maximum_flow;
+    greater_hysteretic(discharge_airflow, limit, FLOW_HYSTERESIS, previous)
+}
+
+// Whether the damper is closed, and whether memory decided that.
+#[tactic(auto, using(cooling_only_controller_timing::proofs::Literals::literals))]
+pub fn damper_closed(damper_position: f64, previous: bool) -> DeadBandOutput
+    ensures { result ≡ AirflowPieces.damper_closed damper_position previous }
+{
+    less_hysteretic(
+        damper_position,
+        DAMPER_POSITION_HYSTERESIS,
+        0.5 * DAMPER_POSITION_HYSTERESIS,
+        previous,
+    )
 }
 
 // The alarms' memories and levels, put together.
