@@ -200,4 +200,5 @@ demand_2 box k all = record {
   next_state = ap (λ (s : AirBoxStep). s.state.state) (tick_accepted box k all);
   last_time = ap (λ (s : AirBoxStep). s.state.last_time) (tick_accepted box k all);
   choices_kept = ap (λ (s : AirBoxStep). s.state.choices) (tick_accepted box k all);
+  last_tick = ap (λ (s : AirBoxStep). s.state.last_tick) (tick_accepted box k all);
 }

@@ -1,19 +1,26 @@
--- The air box of document 01: the Rust's state with the last accepted time and what was chosen when it was built beside it,
+-- The air box of document 01: the Rust's state with the last accepted time, what was chosen when it was built and what it keeps of its last
+-- accepted tick (document 02, N3) beside it,
 -- the questions asked of a tick, the quiet start, building (document 02, N13) and the desk code.
 use Rattle.std.specs.Prelude.{Some, None, Option, ℕ, Bool, true, false, not, ◌&&◌, ◌⊎◌, ℤ, Float, if◌then◌else◌, Result, Ok, Err, ⊤}
 use Rattle.std.proofs.Common.{inl, inr}
 use Rattle.std.specs.Float.Ieee.{neg}
-use Rattle.f64_helpers.specs.F64.{◌⊖◌, ◌≤ᶠ◌, ◌≥ᶠ◌, decimal, zero}
+use Rattle.f64_helpers.specs.F64.{◌⊖◌, ◌⊗◌, ◌≤ᶠ◌, ◌≥ᶠ◌, decimal, zero}
 use Rattle.f64_helpers.specs.Helpers.{is_whole}
 use Rattle.f64_helpers.specs.Integers.{◌==ᶻ◌}
 use Rattle.box_choices.specs.BoxChoices.{usual}
 use Rattle.box_choices.specs.declared.Choices.{Choices}
+use Rattle.cdl_recurrences.specs.CdlRecurrences.{greater_hysteretic, less_hysteretic, decided_by_memory}
+use Rattle.cooling_only_controller_timing.specs.declared.Step.{Step}
+use Rattle.cooling_only_controller_airflow.specs.Airflow.{FLOW_HYSTERESIS, DAMPER_POSITION_HYSTERESIS}
+use Rattle.cooling_only_controller_airflow.specs.declared.AlarmsState.{AlarmsState}
 use Rattle.cooling_only_controller.specs.Controller.{controller_output, fresh_controller}
 use Rattle.cooling_only_controller.specs.declared.ControllerInput.{ControllerInput}
 use Rattle.cooling_only_controller.specs.declared.ControllerOutput.{ControllerOutput}
+use Rattle.cooling_only_controller.specs.declared.ControllerState.{ControllerState}
 use Rattle.air_box.specs.declared.Tick.{Tick}
 use Rattle.air_box.specs.declared.Start.{Start}
 use Rattle.air_box.specs.declared.Start.TheVariants.{Plain, Quiet}
+use Rattle.air_box.specs.declared.LastTick.{LastTick}
 use Rattle.air_box.specs.declared.AirBox.{AirBox}
 use Rattle.air_box.specs.declared.AirBoxStep.{AirBoxStep}
 use Rattle.air_box.specs.declared.BuildRefusal.{BuildRefusal}
@@ -101,20 +108,42 @@ delay_on_init Quiet = true
 
 -- a box that has had no tick
 abbrev pub unticked : Choices → AirBox
-unticked choices = record { state = fresh_controller; last_time = None; choices = choices }
+unticked choices = record { state = fresh_controller; last_time = None; choices = choices; last_tick = None }
 
 -- the one that is built without naming design flows or a reading
 abbrev pub fresh_box : Start → AirBox
 fresh_box start = unticked (usual (delay_on_init start))
 
--- A tick that every question lets pass: the controller's outputs and next state, and its time becomes the last accepted one.
-unfoldable pub accepted_tick : AirBox → Tick → AirBoxStep
-accepted_tick box k =
-    let step = controller_output box.state k.t k.input box.choices in
+-- What it keeps of a tick that it accepts (document 02, N3), for the reasons of NoAlarm.antt: the mode, the fan, and N2's answer for the dead band
+-- of the flow and for that of the damper. The comparisons are those of the alarms stage, `flow_high` and `damper_closed`, at the memories that
+-- the tick met; the damper's position is its command after the override.
+abbrev pub last_tick : AlarmsState → ControllerInput → Float → Choices → LastTick
+last_tick memories input damper_command choices =
+    let flow_high = greater_hysteretic input.discharge_airflow (decimal 1 10 ⊗ choices.design_cooling_maximum_flow) FLOW_HYSTERESIS in
+    let damper_closed = less_hysteretic damper_command DAMPER_POSITION_HYSTERESIS (decimal 5 10 ⊗ DAMPER_POSITION_HYSTERESIS) in
     record {
-      state = record { state = step.state; last_time = Some k.t; choices = box.choices };
+      mode = input.operating_mode;
+      fan = input.supply_fan_status;
+      flow_by_memory = decided_by_memory flow_high memories.flow_high;
+      damper_by_memory = decided_by_memory damper_closed memories.damper_closed;
+    }
+
+-- A tick that every question lets pass, by the controller's step for it: the controller's outputs and next state, its time becomes the last accepted
+-- one, and the box keeps of it what the reasons need.
+abbrev pub stepped : AirBox → Tick → Step ControllerState ControllerOutput → AirBoxStep
+stepped box k step =
+    record {
+      state = record {
+        state = step.state;
+        last_time = Some k.t;
+        choices = box.choices;
+        last_tick = Some (last_tick box.state.alarms k.input step.output.damper_command box.choices);
+      };
       answer = Ok step.output;
     }
+
+unfoldable pub accepted_tick : AirBox → Tick → AirBoxStep
+accepted_tick box k = stepped box k (controller_output box.state k.t k.input box.choices)
 
 -- A refused tick gives the reason, and the box is the old one.
 abbrev pub decided : Result ⊤ Refusal → AirBox → Tick → AirBoxStep

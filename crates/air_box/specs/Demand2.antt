@@ -10,7 +10,7 @@ use Rattle.std.specs.Prelude.{Some, ◌≡◌}
 use Rattle.std.proofs.Common.{inl}
 use Rattle.cooling_only_controller.specs.Controller.{controller_output}
 use Rattle.cooling_only_controller_timing.specs.declared.Step.{Step}
-use Rattle.air_box.specs.AirBox.{tick, given_for}
+use Rattle.air_box.specs.AirBox.{tick, last_tick, given_for}
 use Rattle.air_box.specs.Demand1.{AllYes}
 use Rattle.air_box.specs.declared.Tick.{Tick}
 use Rattle.cooling_only_controller.specs.declared.ControllerState.{ControllerState}
@@ -29,8 +29,11 @@ pub record Stepped (box : AirBox) (k : Tick) : Type 0 where
   pub next_state : (tick box k).state.state ≡ (controller_step_of box k).state
   -- its time is the last accepted one
   pub last_time : (tick box k).state.last_time ≡ Some k.t
-  -- what was chosen when the box was built, which is all else that it holds, stays
+  -- what was chosen when the box was built stays
   pub choices_kept : (tick box k).state.choices ≡ box.choices
+  -- and all else that the box holds is what it keeps of this tick (document 02, N3)
+  pub last_tick : (tick box k).state.last_tick
+      ≡ Some (last_tick box.state.alarms k.input (controller_step_of box k).output.damper_command box.choices)
 
 abbrev pub Demand2 : Type 0
 Demand2 = (box : AirBox) (k : Tick) → AllYes box.last_time k → Stepped box k

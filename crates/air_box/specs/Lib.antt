@@ -1,4 +1,5 @@
 pub mod AirBox
+pub mod NoAlarm
 pub mod Demand1
 pub mod Demand2
 pub mod BenchTick

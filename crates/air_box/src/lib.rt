@@ -1,11 +1,14 @@
-// The air box: the controller's state, the last accepted time and what was chosen when it was built; building; the seven questions asked of a tick; the desk code.
+// The air box: the controller's state, the last accepted time, what was chosen when it was built and what it keeps of its last accepted tick; building; the seven questions asked of a tick; the reasons why there is no alarm; the desk code.
 #![tactic(auto)]
 
 ghost use Rattle.std.specs.Prelude.{◌≡◌};
 ghost use Rattle.air_box.specs.AirBox as AirBoxes;
+ghost use Rattle.air_box.specs.NoAlarm as NoAlarm;
 
 use box_choices::Choices;
 use cooling_only_controller::{ControllerInput, ControllerOutput, ControllerState};
+use cooling_only_controller_airflow::AlarmsState;
+use cooling_only_controller_timing::TrueDelayState;
 use std::error::Error;
 use std::fmt;
 
@@ -24,11 +27,21 @@ pub enum Start {
     Quiet,
 }
 
+// What a box keeps of its last accepted tick for the reasons why there is no alarm: the mode, the fan, and whether memory decided that flow is high or not, and that the damper is closed or not.
+#[derive(Clone, Copy, Debug, PartialEq, Eq)]
+pub struct LastTick {
+    pub mode: i64,
+    pub fan: bool,
+    pub flow_by_memory: bool,
+    pub damper_by_memory: bool,
+}
+
 #[derive(Clone, Copy)]
 pub struct AirBox {
     pub state: ControllerState,
     pub last_time: Option<f64>,
     pub choices: Choices,
+    pub last_tick: Option<LastTick>,
 }
 
 // Why no box is built.
@@ -51,6 +64,34 @@ pub enum Refusal {
 
 // A tick's answer: the ten outputs, or the refusal.
 pub type Answer = Result<ControllerOutput, Refusal>;
+
+// Why an alarm does not stand, after the last accepted tick; or that it stands. `Held`: all that it asks for is there, but not for long enough yet.
+#[derive(Clone, Copy, Debug, PartialEq, Eq)]
+pub enum NoAlarmReason {
+    AlarmStands,
+    NoTick,
+    NotOccupied,
+    FanOn,
+    FanOff,
+    DamperNotClosed,
+    FlowNotHigh,
+    Held { seconds_lacking: u16 },
+}
+
+// The reason for the airflow sensor alarm, and whether memory decided that flow is high or not.
+#[derive(Clone, Copy, Debug, PartialEq, Eq)]
+pub struct SensorReason {
+    pub reason: NoAlarmReason,
+    pub flow_by_memory: bool,
+}
+
+// The reason for the leaking damper alarm, and whether memory decided of the damper and of the flow.
+#[derive(Clone, Copy, Debug, PartialEq, Eq)]
+pub struct LeakReason {
+    pub reason: NoAlarmReason,
+    pub damper_by_memory: bool,
+    pub flow_by_memory: bool,
+}
 
 // The box after a tick, and its answer. No `Step`: its `output` would be read as the ten outputs, which an answer has only where the tick is accepted.
 #[derive(Clone, Copy)]
@@ -113,6 +154,57 @@ impl fmt::Display for BuildRefusal {
 
 impl Error for BuildRefusal {}
 
+// The number of the reason. None is that of a refusal or a desk code.
+impl From<NoAlarmReason> for u8 {
+    ghost from_gives = { λ reason number. number ≡ NoAlarm.reason_number reason };
+
+    fn from(reason: NoAlarmReason) -> u8 {
+        match reason {
+            NoAlarmReason::AlarmStands => 0,
+            NoAlarmReason::NoTick => 60,
+            NoAlarmReason::NotOccupied => 61,
+            NoAlarmReason::FanOn => 62,
+            NoAlarmReason::FanOff => 63,
+            NoAlarmReason::DamperNotClosed => 64,
+            NoAlarmReason::FlowNotHigh => 65,
+            NoAlarmReason::Held { .. } => 66,
+        }
+    }
+}
+
+impl NoAlarmReason {
+    // The seconds that are lacking: of a reason other than `Held`, none.
+    pub fn seconds_lacking(self) -> u16
+        ensures { result ≡ NoAlarm.reason_seconds self }
+    {
+        match self {
+            NoAlarmReason::Held { seconds_lacking } => seconds_lacking,
+            _ => 0,
+        }
+    }
+
+    pub fn words(self) -> &'static str
+        ensures { result.now ≡ NoAlarm.reason_words self }
+    {
+        match self {
+            NoAlarmReason::AlarmStands => "the alarm stands",
+            NoAlarmReason::NoTick => "no tick yet",
+            NoAlarmReason::NotOccupied => "mode not 1",
+            NoAlarmReason::FanOn => "fan on",
+            NoAlarmReason::FanOff => "fan off",
+            NoAlarmReason::DamperNotClosed => "damper not closed",
+            NoAlarmReason::FlowNotHigh => "flow not high",
+            NoAlarmReason::Held { .. } => "held",
+        }
+    }
+}
+
+impl fmt::Display for NoAlarmReason {
+    fn fmt<W: fmt::Write>(&self, f: &mut fmt::Formatter<W>) -> fmt::Result {
+        f.write_str(self.words())
+    }
+}
+
 impl Start {
     // Whether the true delays of system requests and alarms, all but the fan's arming, run with delay_on_init.
     pub fn delay_on_init(self) -> bool
@@ -166,9 +258,135 @@ impl AirBox {
             state: AirBox {
                 state: step.state,
                 last_time: Some(tick.t),
+                last_tick: Some(last_tick(
+                    self.state.alarms,
+                    tick.input,
+                    step.output.damper_command,
+                    self.choices,
+                )),
                 ..self
             },
             answer: Ok(step.output),
+        }
+    }
+
+    // Why there is no airflow sensor alarm.
+    pub fn sensor_reason(self) -> SensorReason
+        ensures { result ≡ NoAlarm.sensor_reason self.last_tick self.state.alarms }
+    {
+        sensor_reason(self.last_tick, self.state.alarms)
+    }
+
+    // Why there is no leaking damper alarm.
+    pub fn leak_reason(self) -> LeakReason
+        ensures { result ≡ NoAlarm.leak_reason self.last_tick self.state.alarms }
+    {
+        leak_reason(self.last_tick, self.state.alarms)
+    }
+}
+
+// What a box keeps of the tick that it accepts, from the memories that the tick met.
+#[tactic(auto, using(f64_helpers::proofs::Integers::i64_kept))]
+pub fn last_tick(
+    memories: AlarmsState,
+    input: ControllerInput,
+    damper_command: f64,
+    choices: Choices,
+) -> LastTick
+    ensures { result ≡ AirBoxes.last_tick memories input damper_command choices }
+{
+    let flow = cooling_only_controller_airflow::flow_high(
+        input.discharge_airflow,
+        choices,
+        memories.flow_high,
+    );
+    let damper = cooling_only_controller_airflow::damper_closed(
+        damper_command,
+        memories.damper_closed,
+    );
+    LastTick {
+        mode: input.operating_mode,
+        fan: input.supply_fan_status,
+        flow_by_memory: flow.decided_by_memory,
+        damper_by_memory: damper.decided_by_memory,
+    }
+}
+
+// The first that is true: no tick, mode not 1, fan on, flow not high, held; else the alarm stands. In the second reading the delay runs on the fan alone, so that what is lacking counts from the fan's last stop.
+#[tactic(auto, unfolding(crate::specs::NoAlarm::sensor_reason))]
+pub fn sensor_reason(last_tick: Option<LastTick>, alarms: AlarmsState) -> SensorReason
+    ensures { result ≡ NoAlarm.sensor_reason last_tick alarms }
+{
+    match last_tick {
+        None => SensorReason {
+            reason: NoAlarmReason::NoTick,
+            flow_by_memory: false,
+        },
+        Some(last) => SensorReason {
+            reason: no_sensor_alarm(last, alarms),
+            flow_by_memory: last.flow_by_memory,
+        },
+    }
+}
+
+// The first that is true: no tick, fan off, damper not closed, flow not high, held; else the alarm stands. The leak's rule asks for no mode.
+#[tactic(auto, unfolding(crate::specs::NoAlarm::leak_reason))]
+pub fn leak_reason(last_tick: Option<LastTick>, alarms: AlarmsState) -> LeakReason
+    ensures { result ≡ NoAlarm.leak_reason last_tick alarms }
+{
+    match last_tick {
+        None => LeakReason {
+            reason: NoAlarmReason::NoTick,
+            damper_by_memory: false,
+            flow_by_memory: false,
+        },
+        Some(last) => LeakReason {
+            reason: no_leak_alarm(last, alarms),
+            damper_by_memory: last.damper_by_memory,
+            flow_by_memory: last.flow_by_memory,
+        },
+    }
+}
+
+#[tactic(auto, using(f64_helpers::proofs::Integers::equals_literal))]
+fn no_sensor_alarm(last: LastTick, alarms: AlarmsState) -> NoAlarmReason
+    ensures { result ≡ NoAlarm.no_sensor_alarm last alarms }
+{
+    if last.mode != 1 {
+        NoAlarmReason::NotOccupied
+    } else if last.fan {
+        NoAlarmReason::FanOn
+    } else if !alarms.flow_high {
+        NoAlarmReason::FlowNotHigh
+    } else {
+        held_or_stands(alarms.sensor_delay)
+    }
+}
+
+fn no_leak_alarm(last: LastTick, alarms: AlarmsState) -> NoAlarmReason
+    ensures { result ≡ NoAlarm.no_leak_alarm last alarms }
+{
+    if !last.fan {
+        NoAlarmReason::FanOff
+    } else if !alarms.damper_closed {
+        NoAlarmReason::DamperNotClosed
+    } else if !alarms.flow_high {
+        NoAlarmReason::FlowNotHigh
+    } else {
+        held_or_stands(alarms.leak_delay)
+    }
+}
+
+// Whether an alarm's delay, of 600 seconds, holds it back still, and what is lacking.
+#[tactic(auto, using(cooling_only_controller_timing::proofs::Literals::literals))]
+fn held_or_stands(delay: TrueDelayState) -> NoAlarmReason
+    ensures { result ≡ NoAlarm.held_or_stands delay }
+{
+    if delay.held {
+        NoAlarmReason::AlarmStands
+    } else {
+        NoAlarmReason::Held {
+            seconds_lacking: std::num::saturating_f64_to_u16(600.0 - delay.timer),
         }
     }
 }
@@ -180,6 +398,7 @@ fn unticked(choices: Choices) -> AirBox
         state: ControllerState::fresh(),
         last_time: None,
         choices,
+        last_tick: None,
     }
 }
 
