@@ -9,7 +9,7 @@ use lib.Dec.{T, T_not, not_T}
 use lib.Ieee.{Float, round, le, neg}
 use lib.Ieee.Fits.{and_i, and_l, and_r}
 use Rattle.f64_helpers.specs.F64.{◌⊖◌, ◌<ᶠ◌, ◌≤ᶠ◌, ◌≥ᶠ◌, decimal, zero}
-use Rattle.std.specs.Prelude.{if◌then◌else◌, Result, Ok, Err, ⊤}
+use Rattle.std.specs.Prelude.{if◌then◌else◌, Option, None, Result, Ok, Err, ⊤}
 use Rattle.f64_helpers.proofs.Order.{lt→le, not_both, number_at_most}
 use Rattle.f64_helpers.proofs.Sums.{above_lowered}
 use Rattle.box_choices.specs.BoxChoices.{chosen, usual}
@@ -22,6 +22,7 @@ use Rattle.cooling_only_controller.specs.declared.ControllerOutput.{ControllerOu
 use Rattle.cooling_only_controller.specs.declared.ControllerState.{ControllerState}
 use Rattle.air_box.specs.AirBox.{delay_on_init, questions, unticked, design_flows_within, build, box_or_number, decided, accepted_tick, tick, outputs_or_number}
 use Rattle.air_box.specs.declared.Tick.{Tick}
+use Rattle.air_box.specs.declared.LastTick.{LastTick}
 use Rattle.air_box.specs.declared.AirBox.{AirBox}
 use Rattle.air_box.specs.declared.AirBoxStep.{AirBoxStep}
 use Rattle.air_box.specs.declared.BuildRefusal.TheVariants.{DesignFlowOutOfRange}
@@ -111,21 +112,23 @@ unfolding controller_output fixed_controller_output setpoints fixed_setpoints ac
 controller_is s t input quiet = refl
 
 -- the old step as one of today
-abbrev step_of : FixedBoxStep → AirBoxStep
-step_of s = record { state = of_fixed s.state; answer = s.answer }
+abbrev step_of : Option LastTick → FixedBoxStep → AirBoxStep
+step_of kept s = record { state = of_fixed kept s.state; answer = s.answer }
 
-decided_is : (v : Result ⊤ Refusal) (box : FixedBox) (k : Tick) → decided v (of_fixed box) k ≡ step_of (fixed_decided v box k)
+decided_is : (v : Result ⊤ Refusal) (kept : Option LastTick) (box : FixedBox) (k : Tick)
+    → decided v (of_fixed kept box) k ≡ step_of (decided v (of_fixed kept box) k).state.last_tick (fixed_decided v box k)
 unfolding accepted_tick
-decided_is (Ok _) box k = rw (controller_is box.state k.t k.input (delay_on_init box.start))
-decided_is (Err reason) box k = refl
+decided_is (Ok _) kept box k = rw (controller_is box.state k.t k.input (delay_on_init box.start))
+decided_is (Err reason) kept box k = refl
 
-tick_is : (box : FixedBox) (k : Tick) → tick (of_fixed box) k ≡ step_of (fixed_tick box k)
+tick_is : (kept : Option LastTick) (box : FixedBox) (k : Tick) → tick (of_fixed kept box) k ≡ step_of (tick (of_fixed kept box) k).state.last_tick (fixed_tick box k)
 unfolding tick
-tick_is box k = decided_is (questions box.last_time k) box k
+tick_is kept box k = decided_is (questions box.last_time k) kept box k
 
-given_is : (box : FixedBox) (ks : List Tick) → map (λ s. s.given) (steps (of_fixed box) ks) ≡ fixed_given box ks
-given_is box [] = refl
-given_is box (k ∷ ks) = rw (tick_is box k) (ap (λ (l : List (ControllerOutput ⊎ ℕ)). outputs_or_number (fixed_tick box k).answer ∷ l) (given_is (fixed_tick box k).state ks))
+given_is : (kept : Option LastTick) (box : FixedBox) (ks : List Tick) → map (λ s. s.given) (steps (of_fixed kept box) ks) ≡ fixed_given box ks
+given_is kept box [] = refl
+given_is kept box (k ∷ ks) =
+    rw (tick_is kept box k) (ap (λ (l : List (ControllerOutput ⊎ ℕ)). outputs_or_number (fixed_tick box k).answer ∷ l) (given_is (tick (of_fixed kept box) k).state.last_tick (fixed_tick box k).state ks))
 
 -- ---- H
 
@@ -142,9 +145,9 @@ other_sizes =
       kept = record { at_a_tick = tick_keeps; for_ever = ticks_keep };
       old_box = record {
         fresh = λ start. refl;
-        answer = λ box k. ap (λ (s : AirBoxStep). s.answer) (tick_is box k);
-        next = λ box k. ap (λ (s : AirBoxStep). s.state) (tick_is box k);
-        night = λ start ticks. given_is (fixed_fresh_box start) ticks;
+        answer = λ kept box k. ap (λ (s : AirBoxStep). s.answer) (tick_is kept box k);
+        next = λ kept box k. ap (λ (s : AirBoxStep). s.state) (tick_is kept box k);
+        night = λ start ticks. given_is None (fixed_fresh_box start) ticks;
       };
       lower_limit = lower_limit;
     }

@@ -97,6 +97,7 @@ with_alarms a box =
       };
       last_time = box.last_time;
       choices = box.choices;
+      last_tick = box.last_tick;
     }
 
 abbrev old_step_of : AirBox → Tick → Step ControllerState ControllerOutput
@@ -114,6 +115,7 @@ old_box new old same =
       same.system_requests,
       same.last_time,
       same.choices,
+      same.last_tick,
     )
 
 fields_of : (new old : AirBox) (k : Tick) → SameFields new old → SameFields (accepted_tick new k).state (accepted_with old_alarms old k).state
@@ -136,6 +138,7 @@ fields_of new old k same =
       leak_delay = rw (same.damper_closed, same.flow_high, same.leak_delay);
       last_time = refl;
       choices = refl;
+      last_tick = rw (same.flow_high, same.damper_closed);
     }
 
 outputs_of : (new old : AirBox) (k : Tick) → SameFields new old → NineOutputs (controller_step_of new k).output (old_step_of old k).output
@@ -183,6 +186,7 @@ fields_kept choices [] = record {
   leak_delay = refl;
   last_time = refl;
   choices = refl;
+  last_tick = refl;
 }
 fields_kept choices (k ∷ h) = fields_of (grown choices h) (old_grown choices h) k (fields_kept choices h)
 

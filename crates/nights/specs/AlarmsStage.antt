@@ -1,6 +1,6 @@
 -- The box with another alarms stage in place of its own, for claims that set an old stage beside that of today.
 -- `OnePlace` of QuietStart.antt says that with `alarms` itself it is the controller of today.
-use Rattle.std.specs.Prelude.{Some, Float, Result, Ok, Err, ⊤}
+use Rattle.std.specs.Prelude.{Float, Result, Ok, Err, ⊤}
 use Rattle.box_choices.specs.declared.Choices.{Choices}
 use Rattle.cooling_only_controller_airflow.specs.declared.AlarmInput.{AlarmInput}
 use Rattle.cooling_only_controller_airflow.specs.declared.AlarmsState.{AlarmsState}
@@ -8,7 +8,7 @@ use Rattle.cooling_only_controller_timing.specs.declared.Step.{Step}
 use Rattle.cooling_only_controller.specs.Controller.{controller_output}
 use Rattle.cooling_only_controller.specs.declared.ControllerInput.{ControllerInput}
 use Rattle.cooling_only_controller.specs.declared.ControllerState.{ControllerState}
-use Rattle.air_box.specs.AirBox.{questions}
+use Rattle.air_box.specs.AirBox.{questions, stepped}
 use Rattle.air_box.specs.declared.Tick.{Tick}
 use Rattle.air_box.specs.declared.Refusal.{Refusal}
 use Rattle.air_box.specs.declared.AirBox.{AirBox}
@@ -57,12 +57,7 @@ controller_with stage s t input choices =
 
 -- the box of AirBox.antt with that controller
 unfoldable pub accepted_with : AlarmsStage → AirBox → Tick → AirBoxStep
-accepted_with stage box k =
-    let step = controller_with stage box.state k.t k.input box.choices in
-    record {
-      state = record { state = step.state; last_time = Some k.t; choices = box.choices };
-      answer = Ok step.output;
-    }
+accepted_with stage box k = stepped box k (controller_with stage box.state k.t k.input box.choices)
 
 abbrev pub decided_with : AlarmsStage → Result ⊤ Refusal → AirBox → Tick → AirBoxStep
 decided_with stage (Ok _) box k = accepted_with stage box k

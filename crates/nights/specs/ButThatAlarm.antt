@@ -62,6 +62,7 @@ box_but box =
       state = state_but box.state;
       last_time = box.last_time;
       choices = chosen c.quiet c.design_minimum_flow c.design_cooling_maximum_flow false;
+      last_tick = box.last_tick;
     }
 
 abbrev pub answer_but : Result ControllerOutput Refusal → Result ControllerOutput Refusal

@@ -1,7 +1,7 @@
 -- Document 02, N13: boxes of other sizes. What building refuses, that a box keeps what it was built with, and that a box with 0.5 and 1.5 is the old
 -- box. Demand 2 for any design flows is Demand2.antt, which speaks of every box, and the statement about the sensor is Demand3.antt.
 -- The method `AirBox::build` is proved to return `build`, `AirBox::fresh` `fresh_box`, and `AirBox::tick` `tick`.
-use Rattle.std.specs.Prelude.{◌≡◌, ◌↔◌, ◌⊎◌, List, map, ℕ, Bool, false, not, T, Float}
+use Rattle.std.specs.Prelude.{◌≡◌, ◌↔◌, ◌⊎◌, List, map, ℕ, Bool, false, not, T, Float, Option, None}
 use Rattle.std.proofs.Common.{inl, inr}
 use Rattle.std.specs.Float.Ieee.{is_nan, neg}
 use Rattle.f64_helpers.specs.F64.{◌⊖◌, ◌<ᶠ◌, ◌≤ᶠ◌, ◌≥ᶠ◌, decimal, zero}
@@ -10,6 +10,7 @@ use Rattle.box_choices.specs.declared.Choices.{Choices}
 use Rattle.air_box.specs.AirBox.{delay_on_init, unticked, fresh_box, build, box_or_number, tick}
 use Rattle.air_box.specs.declared.Tick.{Tick}
 use Rattle.air_box.specs.declared.Start.{Start}
+use Rattle.air_box.specs.declared.LastTick.{LastTick}
 use Rattle.air_box.specs.declared.AirBox.{AirBox}
 use Rattle.nights.specs.Nights.{night_of, box_after}
 use Rattle.nights.specs.Demand3.{H}
@@ -60,16 +61,17 @@ pub record Kept : Type 0 where
 
 -- ---- a box with 0.5 and 1.5, and the first reading, is the old box
 
--- the old box as one of today
-abbrev pub of_fixed : FixedBox → AirBox
-of_fixed box = record { state = box.state; last_time = box.last_time; choices = usual (delay_on_init box.start) }
+-- the old box as one of today, which keeps something of its last tick besides (document 02, N3)
+abbrev pub of_fixed : Option LastTick → FixedBox → AirBox
+of_fixed kept box = record { state = box.state; last_time = box.last_time; choices = usual (delay_on_init box.start); last_tick = kept }
 
 pub record OldBox : Type 0 where
   -- one that has had no tick
-  pub fresh : (start : Start) → fresh_box start ≡ of_fixed (fixed_fresh_box start)
-  -- every tick gives what it gave, and leaves the box that it left, whatever the box holds
-  pub answer : (box : FixedBox) (k : Tick) → (tick (of_fixed box) k).answer ≡ (fixed_tick box k).answer
-  pub next : (box : FixedBox) (k : Tick) → (tick (of_fixed box) k).state ≡ of_fixed (fixed_tick box k).state
+  pub fresh : (start : Start) → fresh_box start ≡ of_fixed None (fixed_fresh_box start)
+  -- every tick gives what it gave, and leaves the box that it left, with what the box of today keeps of its last tick beside it, whatever the box holds
+  pub answer : (kept : Option LastTick) (box : FixedBox) (k : Tick) → (tick (of_fixed kept box) k).answer ≡ (fixed_tick box k).answer
+  pub next : (kept : Option LastTick) (box : FixedBox) (k : Tick)
+      → (tick (of_fixed kept box) k).state ≡ of_fixed (tick (of_fixed kept box) k).state.last_tick (fixed_tick box k).state
   -- and so does every night
   pub night : (start : Start) (ticks : List Tick)
       → map (λ s. s.given) (night_of (usual (delay_on_init start)) ticks) ≡ fixed_given (fixed_fresh_box start) ticks

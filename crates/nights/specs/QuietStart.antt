@@ -149,6 +149,7 @@ pub record SameFields (new old : AirBox) : Type 0 where
   pub leak_delay : new.state.alarms.leak_delay ≡ old.state.alarms.leak_delay
   pub last_time : new.last_time ≡ old.last_time
   pub choices : new.choices ≡ old.choices
+  pub last_tick : new.last_tick ≡ old.last_tick
 
 pub record SameButLowAirflow (new old : NightStep) : Type 0 where
   pub ticked : new.ticked ≡ old.ticked
