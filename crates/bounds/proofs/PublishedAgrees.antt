@@ -1,19 +1,15 @@
 -- The claim of PublishedAgrees.antt. Assumes nothing.
-use Rattle.std.proofs.Common.{◌≡◌, refl, List, [], ◌∷◌, sym, ap, ◌∙◌, Some, Result, Ok}
+use Rattle.std.proofs.Common.{◌≡◌, refl, List, [], ◌∷◌, sym, ap, ◌∙◌, Result}
 use Rattle.std.specs.Bool.{⊤}
 use lib.Ieee.{Float}
 use Rattle.f64_helpers.specs.F64.{decimal}
 use Rattle.box_choices.specs.declared.Choices.{Choices}
-use Rattle.cooling_only_controller_timing.specs.declared.Step.{Step}
-use Rattle.cooling_only_controller.specs.declared.ControllerState.{ControllerState}
-use Rattle.cooling_only_controller.specs.declared.ControllerOutput.{ControllerOutput}
-use Rattle.air_box.specs.AirBox.{unticked, tick, accepted_tick, outputs_or_number}
+use Rattle.air_box.specs.AirBox.{unticked, stepped, tick, accepted_tick, outputs_or_number}
 use Rattle.air_box.specs.Demand1.{AllYes}
 use Rattle.air_box.specs.Demand2.{controller_step_of}
 use Rattle.air_box.specs.declared.Tick.{Tick}
 use Rattle.air_box.specs.declared.Refusal.{Refusal}
 use Rattle.air_box.specs.declared.AirBox.{AirBox}
-use Rattle.air_box.specs.declared.AirBoxStep.{AirBoxStep}
 use Rattle.air_box.proofs.Demands.{tick_accepted, tick_refused, by_verdict, questions_accept, questions_refuse}
 use Rattle.nights.specs.Nights.{NightStep, box_after, steps, steps_by}
 use Rattle.bounds.specs.Kept.{KeptSigns}
@@ -50,15 +46,11 @@ after_ticks_signs box (k ∷ ks) h s = after_ticks_signs (tick box k).state ks h
 
 -- ---- a tick by what the questions decide
 
--- the step of an accepted tick, from that of the controller
-abbrev accepted_with : AirBox → Tick → Step ControllerState ControllerOutput → AirBoxStep
-accepted_with box k step = record { state = record { state = step.state; last_time = Some k.t; choices = box.choices }; answer = Ok step.output }
-
-tick_of : (box : AirBox) (k : Tick) → AllYes box.last_time k → tick box k ≡ accepted_with box k (controller_step_of box k)
+tick_of : (box : AirBox) (k : Tick) → AllYes box.last_time k → tick box k ≡ stepped box k (controller_step_of box k)
 unfolding accepted_tick
 tick_of box k all = tick_accepted box k all
 
-tick_over_of : (h : Helpers) (box : AirBox) (k : Tick) → AllYes box.last_time k → tick_over h box k ≡ accepted_with box k (controller_output_over h box.state k.t k.input box.choices)
+tick_over_of : (h : Helpers) (box : AirBox) (k : Tick) → AllYes box.last_time k → tick_over h box k ≡ stepped box k (controller_output_over h box.state k.t k.input box.choices)
 unfolding tick_over
 tick_over_of h box k all = ap (λ (v : Result ⊤ Refusal). decided_over h v box k) ((questions_accept box.last_time k).1 all)
 
@@ -66,7 +58,7 @@ same_where : (h : Helpers) (box : AirBox) (k : Tick) → (AllYes box.last_time k
 unfolding tick_over
 same_where h box k same =
     by_verdict box.last_time k
-    (λ all. tick_over_of h box k all ∙ ap (accepted_with box k) (same all) ∙ sym (tick_of box k all))
+    (λ all. tick_over_of h box k all ∙ ap (stepped box k) (same all) ∙ sym (tick_of box k all))
     (λ reason first. ap (λ (v : Result ⊤ Refusal). decided_over h v box k) ((questions_refuse box.last_time k reason).1 first) ∙ sym (tick_refused box k reason first))
 
 -- ---- a box grown from a start

@@ -1,7 +1,7 @@
 -- Document 02, N8, of demand 2: on every tick of a box grown from a start the published helpers give what document 01's give.
 -- `published max min` are the published `clamp`, `hysteresis` and `sample_index`, over any `max` and `min` that Rust allows (PublishedHelpers.antt);
 -- `controller_output_over` is the controller over some form of the helpers (PublishedController.antt).
-use Rattle.std.specs.Prelude.{◌≡◌, List, [], ◌∷◌, T, Float, Some, Result, Ok, Err, ⊤}
+use Rattle.std.specs.Prelude.{◌≡◌, List, [], ◌∷◌, T, Float, Result, Ok, Err, ⊤}
 use Rattle.std.specs.Float.{binary64}
 use Rattle.std.specs.Float.Ieee.{fits}
 use Rattle.f64_helpers.specs.Helpers as F64Helpers
@@ -9,7 +9,7 @@ use Rattle.box_choices.specs.declared.Choices.{Choices}
 use Rattle.cooling_only_controller.specs.Controller.{controller_output}
 use Rattle.cooling_only_controller.specs.declared.ControllerInput.{ControllerInput}
 use Rattle.cooling_only_controller.specs.declared.ControllerState.{ControllerState}
-use Rattle.air_box.specs.AirBox.{unticked, questions, tick}
+use Rattle.air_box.specs.AirBox.{unticked, questions, stepped, tick}
 use Rattle.air_box.specs.declared.Tick.{Tick}
 use Rattle.air_box.specs.declared.Refusal.{Refusal}
 use Rattle.air_box.specs.declared.AirBox.{AirBox}
@@ -22,12 +22,7 @@ use Rattle.bounds.specs.PublishedController.{controller_output_over}
 -- ---- the box of AirBox.antt with that controller
 
 abbrev pub decided_over : Helpers → Result ⊤ Refusal → AirBox → Tick → AirBoxStep
-decided_over h (Ok _) box k =
-    let step = controller_output_over h box.state k.t k.input box.choices in
-    record {
-      state = record { state = step.state; last_time = Some k.t; choices = box.choices };
-      answer = Ok step.output;
-    }
+decided_over h (Ok _) box k = stepped box k (controller_output_over h box.state k.t k.input box.choices)
 decided_over h (Err reason) box k = record { state = box; answer = Err reason }
 
 unfoldable pub tick_over : Helpers → AirBox → Tick → AirBoxStep
