@@ -1,15 +1,19 @@
 -- What the C interface promises: `air_box_fresh` gives a box as `Fresh` has it, `air_box_build` leaves its record as `BuiltAt` has it,
--- `air_box_tick` leaves its records as `Ticked` has them, and `air_box_desk_code` gives the box's own `desk_code`.
+-- `air_box_tick` leaves its records as `Ticked` has them, `air_box_sensor_reason` and `air_box_leak_reason` give what `sensor_told` and `leak_told` say
+-- of their record, and `air_box_desk_code` gives the box's own `desk_code`.
 -- What `Ticked` says to a caller, number by number, stands in Demand1InC.antt.
 use Rattle.std.specs.Prelude.{ℕ, ◌≡◌, ⊤, Result, Ok, Err}
 use Rattle.box_choices.specs.declared.Choices.{Choices}
 use Rattle.cooling_only_controller.specs.declared.ControllerOutput.{ControllerOutput}
 use Rattle.air_box.specs.AirBox.{unticked, build, built_number, tick, questions, accepted_tick, refusal_number}
+use Rattle.air_box.specs.NoAlarm.{sensor_reason, leak_reason}
 use Rattle.air_box.specs.declared.Tick.{Tick}
 use Rattle.air_box.specs.declared.AirBox.{AirBox}
 use Rattle.air_box.specs.declared.Refusal.{Refusal}
-use Rattle.air_box_c.specs.Records.{open_time, open_box, shut_box, fresh_record, built_record}
+use Rattle.air_box_c.specs.Records.{open_time, open_box, shut_box, fresh_record, built_record, shut_sensor_reason, shut_leak_reason}
 use Rattle.air_box_c.specs.declared.records.AirBoxC.{AirBoxC}
+use Rattle.air_box_c.specs.declared.records.SensorReasonC.{SensorReasonC}
+use Rattle.air_box_c.specs.declared.records.LeakReasonC.{LeakReasonC}
 
 -- the record of a box stands for that box
 abbrev pub OpenShut : Type 0
@@ -61,3 +65,12 @@ OneOutcome = (before : AirBoxC) (k : Tick) (old_output : ControllerOutput)
     (after after' : AirBoxC) (output output' : ControllerOutput) (number number' : ℕ)
     → Ticked before k old_output after output number → Ticked before k old_output after' output' number'
     → (after ≡ after') × (output ≡ output') × (number ≡ number')
+
+-- ---- why there is no alarm
+
+-- Of any record at all: the reason of the box that it stands for, by its number, the seconds beside it and what memory decided.
+abbrev pub sensor_told : AirBoxC → SensorReasonC
+sensor_told c = shut_sensor_reason (sensor_reason (open_box c).last_tick (open_box c).state.alarms)
+
+abbrev pub leak_told : AirBoxC → LeakReasonC
+leak_told c = shut_leak_reason (leak_reason (open_box c).last_tick (open_box c).state.alarms)

@@ -1,6 +1,6 @@
 -- The records of the C interface: what state each stands for (`open`), and the record of a state (`shut`), from the time to the box.
--- An absent time is the flag false; the number beside it then has no meaning, and `shut` writes 0 there.
-use Rattle.std.specs.Prelude.{true, false, Float, Option, Some, None, Result, Ok, Err, if◌then◌else◌}
+-- What is absent, a time or a last tick, is the flag `present` false; what stands beside it then has no meaning, and `shut` writes 0 and false there.
+use Rattle.std.specs.Prelude.{true, false, pos, Float, Option, Some, None, Result, Ok, Err, if◌then◌else◌}
 use Rattle.f64_helpers.specs.F64.{zero}
 use Rattle.box_choices.specs.declared.Choices.{Choices}
 use Rattle.cooling_only_controller_timing.specs.declared.TrueDelayState.{TrueDelayState}
@@ -15,6 +15,10 @@ use Rattle.cooling_only_controller_airflow.specs.declared.SystemRequestsState.{S
 use Rattle.cooling_only_controller_airflow.specs.declared.AlarmsState.{AlarmsState}
 use Rattle.cooling_only_controller.specs.declared.ControllerState.{ControllerState}
 use Rattle.cooling_only_controller.specs.Controller.{fresh_controller}
+use Rattle.air_box.specs.NoAlarm.{reason_number, reason_seconds}
+use Rattle.air_box.specs.declared.LastTick.{LastTick}
+use Rattle.air_box.specs.declared.SensorReason.{SensorReason}
+use Rattle.air_box.specs.declared.LeakReason.{LeakReason}
 use Rattle.air_box.specs.declared.AirBox.{AirBox}
 use Rattle.air_box.specs.declared.BuildRefusal.{BuildRefusal}
 use Rattle.air_box_c.specs.declared.records.OptionalTimeC.{OptionalTimeC}
@@ -27,7 +31,10 @@ use Rattle.air_box_c.specs.declared.records.DamperC.{DamperC}
 use Rattle.air_box_c.specs.declared.records.SystemRequestsC.{SystemRequestsC}
 use Rattle.air_box_c.specs.declared.records.AlarmsC.{AlarmsC}
 use Rattle.air_box_c.specs.declared.records.AirflowC.{AirflowC}
+use Rattle.air_box_c.specs.declared.records.OptionalLastTickC.{OptionalLastTickC}
 use Rattle.air_box_c.specs.declared.records.LastTickC.{LastTickC}
+use Rattle.air_box_c.specs.declared.records.SensorReasonC.{SensorReasonC}
+use Rattle.air_box_c.specs.declared.records.LeakReasonC.{LeakReasonC}
 use Rattle.air_box_c.specs.declared.records.AirBoxC.{AirBoxC}
 
 unfoldable pub open_time : OptionalTimeC → Option Float
@@ -235,10 +242,30 @@ shut_airflow loops setpoints zone_states damper = record {
   dampers = shut_damper damper;
 }
 
+unfoldable pub open_last_tick : OptionalLastTickC → Option LastTick
+open_last_tick c = if c.present
+    then Some (record { mode = c.mode; fan = c.fan; flow_by_memory = c.flow_by_memory; damper_by_memory = c.damper_by_memory })
+    else None
+
+abbrev pub shut_last_tick : Option LastTick → OptionalLastTickC
+shut_last_tick None = record { present = false; fan = false; flow_by_memory = false; damper_by_memory = false; mode = pos 0 }
+shut_last_tick (Some last) = record {
+  present = true;
+  fan = last.fan;
+  flow_by_memory = last.flow_by_memory;
+  damper_by_memory = last.damper_by_memory;
+  mode = last.mode;
+}
+
 -- ---- the box
 
 unfoldable pub open_box : AirBoxC → AirBox
-open_box c = record { state = open_controller c; last_time = open_time c.last.time; choices = c.last.choices }
+open_box c = record {
+  state = open_controller c;
+  last_time = open_time c.last.time;
+  choices = c.last.choices;
+  last_tick = open_last_tick c.last.tick;
+}
 
 -- the record of a state, with what stands beside it
 abbrev pub shut_state : ControllerState → LastTickC → AirBoxC
@@ -251,13 +278,30 @@ shut_state s last_part = record {
 }
 
 unfoldable pub shut_box : AirBox → AirBoxC
-shut_box box = shut_state box.state (record { time = shut_time box.last_time; choices = box.choices })
+shut_box box = shut_state box.state (record { time = shut_time box.last_time; choices = box.choices; tick = shut_last_tick box.last_tick })
 
 -- the record of a box that has had no tick
 abbrev pub fresh_record : Choices → AirBoxC
-fresh_record choices = shut_state fresh_controller (record { time = shut_time None; choices = choices })
+fresh_record choices = shut_state fresh_controller (record { time = shut_time None; choices = choices; tick = shut_last_tick None })
 
 -- what building leaves where the record c stood: that of the box, or c
 abbrev pub built_record : Result AirBox BuildRefusal → AirBoxC → AirBoxC
 built_record (Ok box) c = shut_box box
 built_record (Err refusal) c = c
+
+-- ---- the reasons why there is no alarm, by their numbers (document 02, N3)
+
+abbrev pub shut_sensor_reason : SensorReason → SensorReasonC
+shut_sensor_reason s = record {
+  reason = reason_number s.reason;
+  seconds_lacking = reason_seconds s.reason;
+  flow_by_memory = s.flow_by_memory;
+}
+
+abbrev pub shut_leak_reason : LeakReason → LeakReasonC
+shut_leak_reason s = record {
+  reason = reason_number s.reason;
+  seconds_lacking = reason_seconds s.reason;
+  damper_by_memory = s.damper_by_memory;
+  flow_by_memory = s.flow_by_memory;
+}

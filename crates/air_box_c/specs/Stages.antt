@@ -1,10 +1,11 @@
 -- One tick over the record of the C interface, part by part. Each stage gives its part afterwards, beside what it hands on to the next;
 -- `ByParts.antt` shows that together they are the tick of the box.
-use Rattle.std.specs.Prelude.{true, ⊤, Result, Ok, Err}
+use Rattle.std.specs.Prelude.{true, ⊤, Some, Result, Ok, Err}
 use Rattle.cooling_only_controller_conditioning.specs.Conditioning.{time_suppression}
 use Rattle.cooling_only_controller_airflow.specs.Airflow.{system_requests, alarms}
 use Rattle.cooling_only_controller.specs.ControllerPieces.{airflow_steps, request_input, alarm_input, outputs}
 use Rattle.cooling_only_controller.specs.declared.AirflowSteps.{AirflowSteps}
+use Rattle.air_box.specs.AirBox as AirBoxes
 use Rattle.air_box.specs.AirBox.{questions}
 use Rattle.air_box.specs.declared.Tick.{Tick}
 use Rattle.air_box.specs.declared.Refusal.{Refusal}
@@ -12,7 +13,7 @@ use Rattle.cooling_only_controller_timing.specs.declared.Step.{Step}
 use Rattle.cooling_only_controller.specs.declared.ControllerOutput.{ControllerOutput}
 use Rattle.air_box_c.specs.Records.{open_time, open_time_suppression, shut_time_suppression}
 use Rattle.air_box_c.specs.Records.{open_control_loops, open_damper, shut_airflow}
-use Rattle.air_box_c.specs.Records.{open_system_requests, shut_system_requests, open_alarms, shut_alarms}
+use Rattle.air_box_c.specs.Records.{open_system_requests, shut_system_requests, open_alarms, shut_alarms, shut_last_tick}
 use Rattle.air_box_c.specs.declared.records.TimeSuppressionC.{TimeSuppressionC}
 use Rattle.air_box_c.specs.declared.records.AirflowC.{AirflowC}
 use Rattle.air_box_c.specs.declared.records.SystemRequestsC.{SystemRequestsC}
@@ -68,15 +69,20 @@ requests_tick c airflow =
     let step = system_requests (open_system_requests c) start.tick.t wanted start.choices in
     record { state = shut_system_requests step.state; output = record { airflow = airflow; requests = step.output } }
 
--- the alarms, and the ten outputs
+-- the alarms, what the box keeps of the tick, from the memories that it met, and the ten outputs
 abbrev pub alarms_tick : AlarmsC → AfterRequests → Step AlarmsC AfterAlarms
 alarms_tick c after =
     let airflow = after.airflow in
     let start = airflow.suppression.start in
     let step = alarms (open_alarms c) start.tick.t (alarm_input start.tick.input airflow.damper) start.choices in
+    let kept = AirBoxes.last_tick (open_alarms c) start.tick.input airflow.damper.damper_command start.choices in
     let output = outputs airflow.damper airflow.flows after.requests step.output in
-    record { state = shut_alarms step.state; output = record { t = start.tick.t; output = output } }
+    record { state = shut_alarms step.state; output = record { t = start.tick.t; kept = kept; output = output } }
 
--- the time of an accepted tick, and its outputs
+-- the time of an accepted tick and what is kept of it, and its outputs
 abbrev pub last_tick : LastTickC → AfterAlarms → Step LastTickC ControllerOutput
-last_tick c done = record { state = record { time = record { present = true; time = done.t }; choices = c.choices }; output = done.output }
+last_tick c done =
+    record {
+      state = record { time = record { present = true; time = done.t }; choices = c.choices; tick = shut_last_tick (Some done.kept) };
+      output = done.output;
+    }

@@ -1,4 +1,4 @@
-// The C interface: the exported functions. They answer with a number, since C has no Result. The box as a record of numbers and flags is in records.rt, the parts of a tick are in stages.rt.
+// The C interface: the exported functions. They answer with a number, since C has no Result, or with a record of numbers and flags. The box as such a record is in records.rt, the parts of a tick are in stages.rt.
 #![tactic(auto)]
 
 ghost use Rattle.std.specs.Prelude.{◌≡◌};
@@ -12,7 +12,7 @@ mod stages;
 use air_box::{AirBox, Tick};
 use box_choices::Choices;
 use cooling_only_controller::ControllerOutput;
-use records::AirBoxC;
+use records::{AirBoxC, LeakReasonC, SensorReasonC};
 
 // A box that has had no tick, with the usual design flows and the first reading.
 #[unsafe(no_mangle)]
@@ -62,6 +62,24 @@ pub extern "C" fn air_box_tick(b: &mut AirBoxC, tick: &Tick, output: &mut Contro
         }
         Err(reason) => reason.into(),
     }
+}
+
+// Why the box at b shows no airflow sensor alarm, after its last accepted tick. The box is read, and not written.
+#[unsafe(no_mangle)]
+#[tactic(auto, unfolding(crate::specs::Records::open_box))]
+pub extern "C" fn air_box_sensor_reason(b: &AirBoxC) -> SensorReasonC
+    ensures { result ≡ Promises.sensor_told b.now }
+{
+    air_box::sensor_reason(b.last.tick.into(), b.alarms.into()).into()
+}
+
+// Why it shows no leaking damper alarm.
+#[unsafe(no_mangle)]
+#[tactic(auto, unfolding(crate::specs::Records::open_box))]
+pub extern "C" fn air_box_leak_reason(b: &AirBoxC) -> LeakReasonC
+    ensures { result ≡ Promises.leak_told b.now }
+{
+    air_box::leak_reason(b.last.tick.into(), b.alarms.into()).into()
 }
 
 // One number from the three alarms.

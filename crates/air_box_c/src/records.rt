@@ -1,8 +1,9 @@
-// The records of the C interface: one for each stage record that holds a time, since an exported signature takes no Option, nor a record with a type parameter that would leave it open, and the box as a record of them.
+// The records of the C interface: one for each stage record that holds a time and one for each reason why there is no alarm, since an exported signature takes no Option and no other enum, nor a record with a type parameter that would leave it open, and the box as a record of them.
 // A record converts into the state that it stands for (`open` in the definitions), and a state into its record (`shut`).
 ghost use Rattle.std.specs.Prelude.{◌≡◌};
 ghost use Rattle.air_box_c.specs.Records as Records;
 
+use air_box::{LastTick, LeakReason, SensorReason};
 use box_choices::Choices;
 use cooling_only_controller::ControllerState;
 use cooling_only_controller_airflow::{AlarmsState, DamperState, SystemRequestsState};
@@ -447,12 +448,61 @@ impl AirflowC {
     }
 }
 
-// Beside the state: the time of the last accepted tick, and what was chosen when the box was built.
+// `Option<LastTick>`: whether a tick was accepted, and what the box keeps of the last one. Where none was, all but `present` has no meaning.
+#[repr(C)]
+#[derive(Clone, Copy)]
+pub struct OptionalLastTickC {
+    pub present: bool,
+    pub fan: bool,
+    pub flow_by_memory: bool,
+    pub damper_by_memory: bool,
+    pub mode: i64,
+}
+
+impl From<OptionalLastTickC> for Option<LastTick> {
+    ghost from_gives = { λ c s. s ≡ Records.open_last_tick c };
+
+    #[tactic(auto, unfolding(crate::specs::Records::open_last_tick))]
+    fn from(c: OptionalLastTickC) -> Option<LastTick> {
+        c.present.then_some(LastTick {
+            mode: c.mode,
+            fan: c.fan,
+            flow_by_memory: c.flow_by_memory,
+            damper_by_memory: c.damper_by_memory,
+        })
+    }
+}
+
+impl From<Option<LastTick>> for OptionalLastTickC {
+    ghost from_gives = { λ s c. c ≡ Records.shut_last_tick s };
+
+    fn from(s: Option<LastTick>) -> OptionalLastTickC {
+        match s {
+            None => OptionalLastTickC {
+                present: false,
+                fan: false,
+                flow_by_memory: false,
+                damper_by_memory: false,
+                mode: 0,
+            },
+            Some(last) => OptionalLastTickC {
+                present: true,
+                fan: last.fan,
+                flow_by_memory: last.flow_by_memory,
+                damper_by_memory: last.damper_by_memory,
+                mode: last.mode,
+            },
+        }
+    }
+}
+
+// Beside the state: the time of the last accepted tick, what was chosen when the box was built, and what it keeps of that tick.
 #[repr(C)]
 #[derive(Clone, Copy)]
 pub struct LastTickC {
     pub time: OptionalTimeC,
     pub choices: Choices,
+    pub tick: OptionalLastTickC,
 }
 
 // `AirBox`. The stages stand in the order in which a tick goes through them.
@@ -480,7 +530,52 @@ impl AirBoxC {
             last: LastTickC {
                 time: None.into(),
                 choices,
+                tick: None.into(),
             },
+        }
+    }
+}
+
+// `SensorReason`: the reason by its number, and the seconds beside it.
+#[repr(C)]
+#[derive(Clone, Copy)]
+pub struct SensorReasonC {
+    pub reason: u8,
+    pub seconds_lacking: u16,
+    pub flow_by_memory: bool,
+}
+
+impl From<SensorReason> for SensorReasonC {
+    ghost from_gives = { λ s c. c ≡ Records.shut_sensor_reason s };
+
+    fn from(s: SensorReason) -> SensorReasonC {
+        SensorReasonC {
+            reason: s.reason.into(),
+            seconds_lacking: s.reason.seconds_lacking(),
+            flow_by_memory: s.flow_by_memory,
+        }
+    }
+}
+
+// `LeakReason`, likewise.
+#[repr(C)]
+#[derive(Clone, Copy)]
+pub struct LeakReasonC {
+    pub reason: u8,
+    pub seconds_lacking: u16,
+    pub damper_by_memory: bool,
+    pub flow_by_memory: bool,
+}
+
+impl From<LeakReason> for LeakReasonC {
+    ghost from_gives = { λ s c. c ≡ Records.shut_leak_reason s };
+
+    fn from(s: LeakReason) -> LeakReasonC {
+        LeakReasonC {
+            reason: s.reason.into(),
+            seconds_lacking: s.reason.seconds_lacking(),
+            damper_by_memory: s.damper_by_memory,
+            flow_by_memory: s.flow_by_memory,
         }
     }
 }

@@ -4,7 +4,7 @@ ghost use Rattle.std.specs.Prelude.{◌≡◌};
 ghost use Rattle.air_box_c.specs.Stages as Stages;
 
 use super::records::{AirflowC, AlarmsC, LastTickC, SystemRequestsC, TimeSuppressionC};
-use air_box::{Refusal, Tick};
+use air_box::{LastTick, Refusal, Tick};
 use box_choices::Choices;
 use cooling_only_controller::ControllerOutput;
 use cooling_only_controller_airflow::{
@@ -45,6 +45,7 @@ pub struct AfterRequests {
 #[derive(Clone, Copy)]
 pub struct AfterAlarms {
     t: f64,
+    kept: LastTick,
     output: ControllerOutput,
 }
 
@@ -67,6 +68,7 @@ impl LastTickC {
             state: LastTickC {
                 time: Some(done.t).into(),
                 choices: self.choices,
+                tick: Some(done.kept).into(),
             },
             output: done.output,
         }
@@ -154,11 +156,18 @@ impl AlarmsC {
         let airflow = after.airflow;
         let start = airflow.suppression.start;
         let input = cooling_only_controller::alarm_input(start.tick.input, airflow.damper);
-        let step = AlarmsState::from(self).output(start.tick.t, input, start.choices);
+        let memories = AlarmsState::from(self);
+        let step = memories.output(start.tick.t, input, start.choices);
         Step {
             state: step.state.into(),
             output: AfterAlarms {
                 t: start.tick.t,
+                kept: air_box::last_tick(
+                    memories,
+                    start.tick.input,
+                    airflow.damper.damper_command,
+                    start.choices,
+                ),
                 output: cooling_only_controller::outputs(
                     airflow.damper,
                     airflow.flows,
