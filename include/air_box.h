@@ -72,13 +72,32 @@
    maker's consultants read it. air_box_fresh keeps the first. So does an initialiser of three values, {true, 0.2, 0.6}, about which compilers warn under
    -Wextra. A program that assigns the fields one by one has to assign this one too.
 
+   Why there is no alarm. A box also tells why its airflow sensor alarm does not stand, and why its leaking damper alarm does not, as a number: the first of
+   these that is true of its last accepted tick.
+
+       sensor:  AIR_BOX_NO_TICK, AIR_BOX_NOT_OCCUPIED, AIR_BOX_FAN_ON, AIR_BOX_FLOW_NOT_HIGH, AIR_BOX_HELD, AIR_BOX_ALARM_STANDS
+       leak:    AIR_BOX_NO_TICK, AIR_BOX_FAN_OFF, AIR_BOX_DAMPER_NOT_CLOSED, AIR_BOX_FLOW_NOT_HIGH, AIR_BOX_HELD, AIR_BOX_ALARM_STANDS
+
+       AirBoxSensorReason why = air_box_sensor_reason(&box);  // after an accepted tick
+       if (why.reason == AIR_BOX_HELD) report_held(why.seconds_lacking);
+
+   It is asked after an accepted tick. A refused one changes none of it: until the next accepted tick the reason is that of the last. The leak alarm asks for
+   no mode. AIR_BOX_HELD: all is there but the 600 seconds. Of them `seconds_lacking`, from 1 to 600, are lacking at that tick: if nothing changes the alarm
+   stands from the first tick on that is so many seconds later. With any other reason it is 0.
+   The seconds run from the accepted tick at which flow high with the fan off last began, in whatever mode; with the second reading from the one at which the
+   fan last stopped, whenever the flow became high; for the leak from the one at which fan on, damper closed and flow high last came together. With a quiet
+   start the first tick counts as such a beginning. With a plain start what is there from the first tick on is never held.
+   Beside the reason, whichever it is, stands whether memory decided. That flow is high, and that the damper is closed, are comparisons with a dead band in
+   which the answer before stays: a flow above a tenth of the maximum less 0.01 and not above the tenth, a damper command from 0.01 to below 0.015. A flag says
+   that with the other memory that tick would have got the other answer. Before the first accepted tick the flags are false.
+
    What the archive needs and takes.
    - x86-64 with the System V ABI, as on Linux and the BSDs. No other processor, and not the ABI of Windows. SSE2 is enough.
    - Doubles rounded to nearest, exceptions masked, no flushing of small numbers to zero: the state in which a program starts. A program that is linked
      with -ffast-math may start in another.
-   - No allocation, no global or static variable, no errno. A tick calls nothing out of the archive; air_box_fresh and
+   - No allocation, no global or static variable, no errno. A tick and a reason call nothing out of the archive; air_box_fresh and
      air_box_build call memset, which a program without a C library has to bring. Calls may run at the same time on different boxes; one box is
-     ticked by one thread at a time, and a signal handler does not tick a box that it may have interrupted.
+     ticked by one thread at a time, and asked for no reason meanwhile, and a signal handler neither ticks nor asks a box that it may have interrupted.
    - No loop, no recursion and no indirect jump, so the time of a call is bounded. A tick was seen to take some 750 bytes of stack, a building
      100; no proof bounds them.
 
@@ -90,7 +109,8 @@
 
    A box holds no pointer: it may be copied, by assignment or memcpy, and saved, to be loaded by a program with the same archive; the caller keeps a
    version beside it. A loaded box goes on where the same clock has moved on by at most 240 seconds; else a fresh one is needed. Its padding may
-   hold anything, so two boxes that are the same may differ in raw bytes: to compare two, compare their fields, and do not send raw bytes to others. */
+   hold anything, so two boxes that are the same may differ in raw bytes: to compare two, compare their fields, and do not send raw bytes to others.
+   A box that an older archive saved cannot be loaded: it is shorter, and keeps nothing of its last tick. It is built afresh. */
 #ifndef AIR_BOX_H
 #define AIR_BOX_H
 
@@ -256,6 +276,38 @@ AIR_BOX_ASSERT(offsetof(AirBoxOutput, leaking_damper_alarm) == 72);
 #define AIR_BOX_DESK_LOW_BELOW_SEVENTY 13   /* it is 3 */
 #define AIR_BOX_DESK_AIRFLOW_SENSOR 23      /* airflow_sensor_alarm is 3 */
 #define AIR_BOX_DESK_NO_ALARM 0             /* else */
+
+/* ---- Why there is no alarm, after the last accepted tick. None of the numbers is that of a refusal or a desk code, 0 apart. */
+#define AIR_BOX_ALARM_STANDS 0              /* the alarm stands: in the outputs of that tick it is AIR_BOX_AIRFLOW_SENSOR, or AIR_BOX_LEAKING_DAMPER */
+#define AIR_BOX_NO_TICK 60                  /* no tick yet: none was accepted */
+#define AIR_BOX_NOT_OCCUPIED 61             /* mode not 1; of the sensor alarm alone */
+#define AIR_BOX_FAN_ON 62                   /* fan on; of the sensor alarm alone */
+#define AIR_BOX_FAN_OFF 63                  /* fan off; of the leak alarm alone */
+#define AIR_BOX_DAMPER_NOT_CLOSED 64        /* damper not closed; of the leak alarm alone */
+#define AIR_BOX_FLOW_NOT_HIGH 65            /* flow not high */
+#define AIR_BOX_HELD 66                     /* held: all is there, but for less than 600 seconds */
+
+/* Why there is no airflow sensor alarm. */
+typedef struct AirBoxSensorReason {
+    uint8_t reason;                         /* one of these numbers */
+    uint16_t seconds_lacking;               /* with AIR_BOX_HELD from 1 to 600, else 0 */
+    bool flow_by_memory;                    /* true: memory decided whether the flow is high */
+} AirBoxSensorReason;
+AIR_BOX_ASSERT(sizeof(AirBoxSensorReason) == 6);
+AIR_BOX_ASSERT(offsetof(AirBoxSensorReason, seconds_lacking) == 2);
+AIR_BOX_ASSERT(offsetof(AirBoxSensorReason, flow_by_memory) == 4);
+
+/* Why there is no leaking damper alarm. */
+typedef struct AirBoxLeakReason {
+    uint8_t reason;
+    uint16_t seconds_lacking;
+    bool damper_by_memory;                  /* true: memory decided whether the damper is closed */
+    bool flow_by_memory;
+} AirBoxLeakReason;
+AIR_BOX_ASSERT(sizeof(AirBoxLeakReason) == 6);
+AIR_BOX_ASSERT(offsetof(AirBoxLeakReason, seconds_lacking) == 2);
+AIR_BOX_ASSERT(offsetof(AirBoxLeakReason, damper_by_memory) == 4);
+AIR_BOX_ASSERT(offsetof(AirBoxLeakReason, flow_by_memory) == 5);
 
 /* ---- The inside of a box: what it remembers from tick to tick. Callers need none of it but `last.choices`. */
 
@@ -475,13 +527,29 @@ AIR_BOX_ASSERT(offsetof(AirBoxAirflow, setpoints) == 144);
 AIR_BOX_ASSERT(offsetof(AirBoxAirflow, zone_states) == 145);
 AIR_BOX_ASSERT(offsetof(AirBoxAirflow, dampers) == 152);
 
-/* The time of the last accepted tick, and what was chosen when the box was built. */
+/* What is kept of the last accepted tick for the reasons, or nothing: where `present` is false, the rest has no meaning. */
+typedef struct AirBoxOptionalLastTick {
+    bool present;
+    bool fan;
+    bool flow_by_memory;
+    bool damper_by_memory;
+    int64_t mode;
+} AirBoxOptionalLastTick;
+AIR_BOX_ASSERT(sizeof(AirBoxOptionalLastTick) == 16);
+AIR_BOX_ASSERT(offsetof(AirBoxOptionalLastTick, fan) == 1);
+AIR_BOX_ASSERT(offsetof(AirBoxOptionalLastTick, flow_by_memory) == 2);
+AIR_BOX_ASSERT(offsetof(AirBoxOptionalLastTick, damper_by_memory) == 3);
+AIR_BOX_ASSERT(offsetof(AirBoxOptionalLastTick, mode) == 8);
+
+/* The time of the last accepted tick, what was chosen when the box was built, and what is kept of that tick. */
 typedef struct AirBoxLast {
     AirBoxOptionalTime time;
     AirBoxChoices choices;
+    AirBoxOptionalLastTick tick;
 } AirBoxLast;
-AIR_BOX_ASSERT(sizeof(AirBoxLast) == 48);
+AIR_BOX_ASSERT(sizeof(AirBoxLast) == 64);
 AIR_BOX_ASSERT(offsetof(AirBoxLast, choices) == 16);
+AIR_BOX_ASSERT(offsetof(AirBoxLast, tick) == 48);
 
 /* A box. The stages stand in the order in which a tick goes through them. */
 typedef struct AirBox {
@@ -491,13 +559,13 @@ typedef struct AirBox {
     AirBoxAlarms alarms;
     AirBoxLast last;
 } AirBox;
-AIR_BOX_ASSERT(sizeof(AirBox) == 872);
+AIR_BOX_ASSERT(sizeof(AirBox) == 888);
 AIR_BOX_ASSERT(offsetof(AirBox, airflow) == 160);
 AIR_BOX_ASSERT(offsetof(AirBox, system_requests) == 352);
 AIR_BOX_ASSERT(offsetof(AirBox, alarms) == 600);
 AIR_BOX_ASSERT(offsetof(AirBox, last) == 824);
 
-/* ---- The four functions */
+/* ---- The six functions */
 
 /* A box that has had no tick, with a quiet start where `quiet` is true, else a plain one, a design minimum of 0.5, a cooling maximum of 1.5 and the first
    reading of the airflow sensor alarm. */
@@ -510,6 +578,10 @@ uint8_t air_box_build(AirBox *box, AirBoxChoices choices);
 /* One tick of the box at `box`. AIR_BOX_ACCEPTED: the box has moved on, and `output` holds the ten outputs.
    Any other number: the tick is refused for that reason, and neither the box nor the output was written. */
 uint8_t air_box_tick(AirBox *box, const AirBoxTick *tick, AirBoxOutput *output);
+
+/* Why the box at `box` has no airflow sensor alarm, and why it has no leaking damper alarm, after its last accepted tick. The box is read, and not written. */
+AirBoxSensorReason air_box_sensor_reason(const AirBox *box);
+AirBoxLeakReason air_box_leak_reason(const AirBox *box);
 
 /* The desk code of three alarms, AIR_BOX_DESK_..; any numbers may be given. */
 uint8_t air_box_desk_code(int64_t low_airflow_alarm, int64_t airflow_sensor_alarm, int64_t leaking_damper_alarm);
