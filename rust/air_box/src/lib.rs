@@ -116,6 +116,49 @@
 //! # Ok::<(), BuildRefusal>(())
 //! ```
 //!
+//! # Why there is no alarm
+//!
+//! A box tells why its airflow sensor alarm does not stand, and why its leaking damper alarm does not: the first of these reasons that is true of its last
+//! accepted tick. For the sensor alarm: no tick yet, mode not 1, fan on, flow not high, held. For the leak alarm, which asks for no mode: no tick yet, fan
+//! off, damper not closed, flow not high, held. Else the alarm stands. It is asked after an accepted tick; a refused one changes none of it.
+//!
+//! ```
+//! use air_box::{AirBox, NoAlarmReason};
+//! # use air_box::{Input, Tick};
+//! # let minute = |minute: u32, discharge_airflow: f64| Tick {
+//! #     t: 60.0 * f64::from(minute),
+//! #     input: Input {
+//! #         zone_temperature: 296.5,
+//! #         cooling_setpoint: 297.0,
+//! #         heating_setpoint: 293.0,
+//! #         window_status: true,
+//! #         occupancy_status: true,
+//! #         operating_mode: 1,
+//! #         co2_setpoint: 900.0,
+//! #         co2_concentration: 600.0,
+//! #         discharge_air_temperature: 287.0,
+//! #         supply_air_temperature: 286.0,
+//! #         discharge_airflow,
+//! #         airflow_override_index: 0,
+//! #         damper_override_index: 0,
+//! #         supply_fan_status: false,
+//! #     },
+//! # };
+//!
+//! let mut air_box = AirBox::quiet();
+//! assert_eq!(air_box.sensor_reason().reason, NoAlarmReason::NoTick);
+//! air_box.tick(&minute(0, 0.3)).expect("accepted"); // the fan off, and a flow of 0.3
+//! air_box.tick(&minute(1, 0.145)).expect("accepted");
+//! let why = air_box.sensor_reason();
+//! assert_eq!(why.reason, NoAlarmReason::Held { seconds_lacking: 540 });
+//! assert!(why.flow_by_memory); // it is high since it was, not by itself
+//! assert_eq!(air_box.leak_reason().reason.to_string(), "fan off");
+//! ```
+//!
+//! Held is an alarm for which all is there but the 600 seconds. They run from the accepted tick at which flow high with the fan off last began, in whatever
+//! mode; with the second reading from the one at which the fan last stopped; for the leak from the one at which fan on, damper closed and flow high last came
+//! together. With a quiet start the first tick counts as such a beginning. With a plain start what is there from the first tick on is never held.
+//!
 //! # What it needs
 //!
 //! x86-64 with the System V ABI; doubles rounded to nearest, exceptions masked, small numbers not flushed to zero. Nothing is allocated, and no `std` is used.
@@ -284,13 +327,113 @@ impl fmt::Display for Refusal {
 
 impl Error for Refusal {}
 
-/// What the record holds beside the controller's state.
+/// Why an alarm does not stand, or that it stands. None of the numbers is that of a refusal or a desk code, 0 apart.
+#[derive(Clone, Copy, Debug, PartialEq, Eq, Hash)]
+pub enum NoAlarmReason {
+    /// 0. In the outputs of the last accepted tick the alarm is not 0.
+    AlarmStands,
+    /// 60. No tick was accepted yet.
+    NoTick,
+    /// 61. The mode is not 1; of the sensor alarm alone.
+    NotOccupied,
+    /// 62. Of the sensor alarm alone.
+    FanOn,
+    /// 63. Of the leak alarm alone.
+    FanOff,
+    /// 64. Of the leak alarm alone.
+    DamperNotClosed,
+    /// 65.
+    FlowNotHigh,
+    /// 66. All is there, but for less than 600 seconds; so many of them, from 1 to 600, are lacking at the last accepted tick.
+    Held { seconds_lacking: u16 },
+}
+
+impl NoAlarmReason {
+    pub const fn number(self) -> u8 {
+        match self {
+            NoAlarmReason::AlarmStands => 0,
+            NoAlarmReason::NoTick => 60,
+            NoAlarmReason::NotOccupied => 61,
+            NoAlarmReason::FanOn => 62,
+            NoAlarmReason::FanOff => 63,
+            NoAlarmReason::DamperNotClosed => 64,
+            NoAlarmReason::FlowNotHigh => 65,
+            NoAlarmReason::Held { .. } => 66,
+        }
+    }
+
+    fn from_archive(number: u8, seconds_lacking: u16) -> NoAlarmReason {
+        match number {
+            0 => NoAlarmReason::AlarmStands,
+            60 => NoAlarmReason::NoTick,
+            61 => NoAlarmReason::NotOccupied,
+            62 => NoAlarmReason::FanOn,
+            63 => NoAlarmReason::FanOff,
+            64 => NoAlarmReason::DamperNotClosed,
+            65 => NoAlarmReason::FlowNotHigh,
+            _ => NoAlarmReason::Held { seconds_lacking },
+        }
+    }
+}
+
+impl fmt::Display for NoAlarmReason {
+    fn fmt(&self, f: &mut fmt::Formatter<'_>) -> fmt::Result {
+        f.write_str(match self {
+            NoAlarmReason::AlarmStands => "the alarm stands",
+            NoAlarmReason::NoTick => "no tick yet",
+            NoAlarmReason::NotOccupied => "mode not 1",
+            NoAlarmReason::FanOn => "fan on",
+            NoAlarmReason::FanOff => "fan off",
+            NoAlarmReason::DamperNotClosed => "damper not closed",
+            NoAlarmReason::FlowNotHigh => "flow not high",
+            NoAlarmReason::Held { .. } => "held",
+        })
+    }
+}
+
+/// Why there is no airflow sensor alarm, after the last accepted tick. The flag stands beside every reason; before the first accepted tick it is false.
+#[derive(Clone, Copy, Debug, PartialEq, Eq, Hash)]
+pub struct SensorReason {
+    pub reason: NoAlarmReason,
+    /// Memory decided whether the flow is high: with the other memory that tick would have got the other answer.
+    pub flow_by_memory: bool,
+}
+
+/// Why there is no leaking damper alarm, after the last accepted tick. The flags stand beside every reason; before the first accepted tick they are false.
+#[derive(Clone, Copy, Debug, PartialEq, Eq, Hash)]
+pub struct LeakReason {
+    pub reason: NoAlarmReason,
+    /// Memory decided whether the damper is closed.
+    pub damper_by_memory: bool,
+    /// Memory decided whether the flow is high.
+    pub flow_by_memory: bool,
+}
+
+/// `SensorReason` as it crosses the boundary.
+#[repr(C)]
+struct SensorRecord {
+    reason: u8,
+    seconds_lacking: u16,
+    flow_by_memory: bool,
+}
+
+/// `LeakReason` likewise.
+#[repr(C)]
+struct LeakRecord {
+    reason: u8,
+    seconds_lacking: u16,
+    damper_by_memory: bool,
+    flow_by_memory: bool,
+}
+
+/// What the record holds beside the controller's state. Only the archive reads what it keeps of the last accepted tick.
 #[repr(C)]
 #[derive(Clone, Copy)]
 struct Last {
     present: bool,
     time: f64,
     choices: Choices,
+    tick: [MaybeUninit<u64>; 2],
 }
 
 /// The record that stands for a box. Only the archive reads its state, whose padding may be unwritten.
@@ -302,11 +445,12 @@ struct Record {
 }
 
 const _: () =
-    assert!(size_of::<Record>() == 872 && size_of::<Tick>() == 112 && size_of::<Output>() == 80);
+    assert!(size_of::<Record>() == 888 && size_of::<Tick>() == 112 && size_of::<Output>() == 80);
 const _: () = assert!(
     offset_of!(Record, last) == 824
         && offset_of!(Last, time) == 8
         && offset_of!(Last, choices) == 16
+        && offset_of!(Last, tick) == 48
 );
 const _: () = assert!(
     size_of::<Choices>() == 32
@@ -314,11 +458,24 @@ const _: () = assert!(
         && offset_of!(Choices, design_cooling_maximum_flow) == 16
         && offset_of!(Choices, second_reading) == 24
 );
+const _: () = assert!(
+    size_of::<SensorRecord>() == 6
+        && offset_of!(SensorRecord, seconds_lacking) == 2
+        && offset_of!(SensorRecord, flow_by_memory) == 4
+);
+const _: () = assert!(
+    size_of::<LeakRecord>() == 6
+        && offset_of!(LeakRecord, seconds_lacking) == 2
+        && offset_of!(LeakRecord, damper_by_memory) == 4
+        && offset_of!(LeakRecord, flow_by_memory) == 5
+);
 
 extern "C" {
     fn air_box_fresh(quiet: bool) -> Record;
     fn air_box_build(record: *mut Record, choices: Choices) -> u8;
     fn air_box_tick(record: *mut Record, tick: *const Tick, output: *mut Output) -> u8;
+    fn air_box_sensor_reason(record: *const Record) -> SensorRecord;
+    fn air_box_leak_reason(record: *const Record) -> LeakRecord;
     fn air_box_desk_code(low_airflow: i64, airflow_sensor: i64, leaking_damper: i64) -> u8;
 }
 
@@ -371,6 +528,25 @@ impl AirBox {
             5 => Err(Refusal::TemperatureOutOfRange),
             6 => Err(Refusal::Co2OutOfRange),
             _ => Err(Refusal::AirflowOutOfRange),
+        }
+    }
+
+    /// Why there is no airflow sensor alarm, after the last accepted tick.
+    pub fn sensor_reason(&self) -> SensorReason {
+        let told = unsafe { air_box_sensor_reason(&self.0) };
+        SensorReason {
+            reason: NoAlarmReason::from_archive(told.reason, told.seconds_lacking),
+            flow_by_memory: told.flow_by_memory,
+        }
+    }
+
+    /// Why there is no leaking damper alarm, after the last accepted tick.
+    pub fn leak_reason(&self) -> LeakReason {
+        let told = unsafe { air_box_leak_reason(&self.0) };
+        LeakReason {
+            reason: NoAlarmReason::from_archive(told.reason, told.seconds_lacking),
+            damper_by_memory: told.damper_by_memory,
+            flow_by_memory: told.flow_by_memory,
         }
     }
 }

@@ -1,7 +1,10 @@
 //! What a user of the wrapper relies on: refusals change nothing and say why, a box past its time is built afresh, the starts differ, sizes and their
-//! ranges, the two readings, the desk codes.
+//! ranges, the two readings, the desk codes, the reasons why there is no alarm.
 
-use air_box::{desk_code, AirBox, BuildRefusal, Choices, Input, Output, Refusal, Tick};
+use air_box::{
+    desk_code, AirBox, BuildRefusal, Choices, Input, LeakReason, NoAlarmReason, Output, Refusal,
+    SensorReason, Tick,
+};
 
 fn at(t: f64) -> Tick {
     Tick {
@@ -282,6 +285,245 @@ fn the_leak_comes_first() {
     let output = AirBox::plain().tick(&tick).expect("accepted");
     let alarms = (output.low_airflow_alarm, output.leaking_damper_alarm);
     assert_eq!((alarms, output.desk_code()), ((3, 4), 34));
+}
+
+/// A tick that only the alarms of this test look at: the fan, the mode and the flow, the damper overridden by this index.
+fn alarm_tick(t: f64, fan: bool, mode: i64, flow: f64, damper: i64) -> Tick {
+    let mut tick = at(t);
+    tick.input.supply_fan_status = fan;
+    tick.input.operating_mode = mode;
+    tick.input.discharge_airflow = flow;
+    tick.input.damper_override_index = damper;
+    tick
+}
+
+fn held(seconds_lacking: u16) -> NoAlarmReason {
+    NoAlarmReason::Held { seconds_lacking }
+}
+
+/// The reasons of the box after each of these ticks, of the alarm that is asked.
+fn after_each<const N: usize>(
+    mut air_box: AirBox,
+    ticks: [Tick; N],
+    asked: fn(&AirBox) -> NoAlarmReason,
+) -> [NoAlarmReason; N] {
+    ticks.map(|tick| {
+        air_box.tick(&tick).expect("accepted");
+        asked(&air_box)
+    })
+}
+
+fn sensor(air_box: &AirBox) -> NoAlarmReason {
+    air_box.sensor_reason().reason
+}
+
+fn leak(air_box: &AirBox) -> NoAlarmReason {
+    air_box.leak_reason().reason
+}
+
+#[test]
+fn a_box_without_a_tick_says_so() {
+    let second = AirBox::build(Choices {
+        second_reading: true,
+        ..sized(0.2, 0.6)
+    });
+    for mut air_box in [
+        AirBox::quiet(),
+        AirBox::plain(),
+        second.expect("in range"),
+        AirBox::quiet().afresh(),
+    ] {
+        for _ in 0..2 {
+            let sensor = SensorReason {
+                reason: NoAlarmReason::NoTick,
+                flow_by_memory: false,
+            };
+            let leak = LeakReason {
+                reason: NoAlarmReason::NoTick,
+                damper_by_memory: false,
+                flow_by_memory: false,
+            };
+            assert_eq!(
+                (air_box.sensor_reason(), air_box.leak_reason()),
+                (sensor, leak)
+            );
+            air_box.tick(&at(0.5)).expect_err("refused");
+        }
+    }
+}
+
+#[test]
+fn the_first_reason_of_the_sensor_alarm_that_is_true() {
+    let ticks = [
+        alarm_tick(0.0, true, 2, 0.0, 0),
+        alarm_tick(60.0, true, 1, 0.0, 0),
+        alarm_tick(120.0, false, 1, 0.0, 0),
+        alarm_tick(180.0, false, 1, 0.3, 0),
+        // The mode is left aside in the ten minutes.
+        alarm_tick(300.0, false, 2, 0.3, 0),
+        alarm_tick(540.0, false, 1, 0.3, 0),
+        alarm_tick(779.0, false, 1, 0.3, 0),
+        alarm_tick(780.0, false, 1, 0.3, 0),
+    ];
+    let reasons = [
+        NoAlarmReason::NotOccupied,
+        NoAlarmReason::FanOn,
+        NoAlarmReason::FlowNotHigh,
+        held(600),
+        NoAlarmReason::NotOccupied,
+        held(240),
+        held(1),
+        NoAlarmReason::AlarmStands,
+    ];
+    for air_box in [AirBox::quiet(), AirBox::plain()] {
+        assert_eq!(after_each(air_box, ticks, sensor), reasons);
+    }
+}
+
+#[test]
+fn the_first_reason_of_the_leak_alarm_that_is_true() {
+    let ticks = [
+        alarm_tick(0.0, false, 7, 0.3, 2),
+        alarm_tick(60.0, true, 7, 0.0, 2),
+        alarm_tick(120.0, true, 7, 0.0, 1),
+        alarm_tick(180.0, true, 7, 0.3, 1),
+        alarm_tick(419.0, true, 1, 0.3, 1),
+        alarm_tick(659.0, true, 7, 0.3, 1),
+        alarm_tick(780.0, true, 7, 0.3, 1),
+    ];
+    let reasons = [
+        NoAlarmReason::FanOff,
+        NoAlarmReason::DamperNotClosed,
+        NoAlarmReason::FlowNotHigh,
+        held(600),
+        held(361),
+        held(121),
+        NoAlarmReason::AlarmStands,
+    ];
+    for air_box in [AirBox::quiet(), AirBox::plain()] {
+        assert_eq!(after_each(air_box, ticks, leak), reasons);
+    }
+}
+
+#[test]
+fn what_is_there_from_the_first_tick_on_is_held_with_a_quiet_start_alone() {
+    let reasons = |air_box: AirBox| {
+        let off = [0.0, 60.0].map(|t| alarm_tick(t, false, 1, 0.3, 1));
+        let on = [0.0, 60.0].map(|t| alarm_tick(t, true, 1, 0.3, 1));
+        (
+            after_each(air_box.clone(), off, sensor),
+            after_each(air_box, on, leak),
+        )
+    };
+    let waits = [held(600), held(540)];
+    assert_eq!(reasons(AirBox::quiet()), (waits, waits));
+    let stands = [NoAlarmReason::AlarmStands; 2];
+    assert_eq!(reasons(AirBox::plain()), (stands, stands));
+}
+
+#[test]
+fn with_the_second_reading_the_seconds_run_from_the_fans_stop() {
+    let ticks = [
+        alarm_tick(0.0, true, 1, 0.0, 0),
+        alarm_tick(60.0, false, 1, 0.0, 0),
+        alarm_tick(240.0, false, 1, 0.3, 0),
+        alarm_tick(480.0, false, 1, 0.3, 0),
+        alarm_tick(659.0, false, 1, 0.0, 0),
+        alarm_tick(660.0, false, 1, 0.3, 0),
+    ];
+    let reasons = [false, true].map(|second_reading| {
+        let choices = Choices {
+            second_reading,
+            ..Choices::usual(true)
+        };
+        let air_box = AirBox::build(choices).expect("the usual size");
+        after_each(air_box, ticks, sensor)
+    });
+    let (fan_on, not_high) = (NoAlarmReason::FanOn, NoAlarmReason::FlowNotHigh);
+    let first = [fan_on, not_high, held(600), held(360), not_high, held(600)];
+    let stands = NoAlarmReason::AlarmStands;
+    let second = [fan_on, not_high, held(420), held(180), not_high, stands];
+    assert_eq!(reasons, [first, second]);
+}
+
+#[test]
+fn a_refused_tick_changes_no_reason() {
+    let mut air_box = AirBox::quiet();
+    air_box
+        .tick(&alarm_tick(0.0, false, 1, 0.3, 0))
+        .expect("accepted");
+    air_box
+        .tick(&alarm_tick(60.0, false, 1, 0.145, 0))
+        .expect("accepted");
+    let before = (air_box.sensor_reason(), air_box.leak_reason());
+    assert_eq!(
+        (before.0.reason, before.0.flow_by_memory),
+        (held(540), true)
+    );
+    for t in [0.5, -1.0, 59.0, 301.0] {
+        air_box
+            .tick(&alarm_tick(t, true, 2, 0.0, 0))
+            .expect_err("refused");
+        assert_eq!((air_box.sensor_reason(), air_box.leak_reason()), before);
+    }
+    // Nor is a fan that was on at refused ticks a fall.
+    air_box
+        .tick(&alarm_tick(120.0, false, 1, 0.145, 0))
+        .expect("accepted");
+    assert_eq!(sensor(&air_box), held(480));
+}
+
+#[test]
+fn each_flag_is_of_its_own_dead_band() {
+    // Flow is high above 0.15 and stays so above 0.14.
+    let flags = |before: f64, flow: f64| {
+        let mut air_box = AirBox::quiet();
+        for (t, flow) in [(0.0, before), (60.0, flow)] {
+            air_box
+                .tick(&alarm_tick(t, true, 1, flow, 1))
+                .expect("accepted");
+        }
+        let leak = air_box.leak_reason();
+        assert_eq!(air_box.sensor_reason().flow_by_memory, leak.flow_by_memory);
+        (leak.reason, leak.damper_by_memory, leak.flow_by_memory)
+    };
+    let not_high = NoAlarmReason::FlowNotHigh;
+    assert_eq!(flags(0.3, 0.3), (held(540), false, false));
+    assert_eq!(flags(0.3, 0.145), (held(540), false, true));
+    assert_eq!(flags(0.3, 0.139), (not_high, false, false));
+    assert_eq!(flags(0.0, 0.145), (not_high, false, true));
+    assert_eq!(flags(0.0, 0.3), (held(600), false, false));
+    // A command above 0.01 and below 0.015 is closed where it was: the damper's loop opens slowly from 0.
+    let mut air_box = AirBox::quiet();
+    let mut by_memory = 0;
+    for second in 0..1200 {
+        let mut tick = alarm_tick(f64::from(second), true, 7, 0.0, 0);
+        tick.input.airflow_override_index = 0;
+        tick.input.discharge_airflow = -0.01;
+        let command = air_box.tick(&tick).expect("accepted").damper_command;
+        let leak = air_box.leak_reason();
+        let band = (0.01..0.015).contains(&command);
+        assert_eq!((leak.damper_by_memory, leak.flow_by_memory), (band, false));
+        by_memory += u32::from(band);
+    }
+    assert!(by_memory > 0);
+}
+
+#[test]
+fn reasons_have_numbers_and_words() {
+    let reasons = [
+        (NoAlarmReason::AlarmStands, 0, "the alarm stands"),
+        (NoAlarmReason::NoTick, 60, "no tick yet"),
+        (NoAlarmReason::NotOccupied, 61, "mode not 1"),
+        (NoAlarmReason::FanOn, 62, "fan on"),
+        (NoAlarmReason::FanOff, 63, "fan off"),
+        (NoAlarmReason::DamperNotClosed, 64, "damper not closed"),
+        (NoAlarmReason::FlowNotHigh, 65, "flow not high"),
+        (held(540), 66, "held"),
+    ];
+    for (reason, number, words) in reasons {
+        assert_eq!((reason.number(), &*reason.to_string()), (number, words));
+    }
 }
 
 #[test]
