@@ -8,8 +8,13 @@ use crate::fields::Value;
 use crate::reckoning::Reckoning;
 use crate::tick::{Building, Flows, Tick, USUAL};
 
-/// The place of the airflow sensor alarm among the integers of an answer.
+/// The places of the damper command among the floats of an answer, and of the airflow sensor alarm among its integers.
+pub const DAMPER: usize = 1;
 const SENSOR: usize = 3;
+
+/// What a box keeps that had no accepted tick.
+#[cfg(fields)]
+const NOTHING_KEPT: [Value; 5] = [Value::Flag(0), Value::Flag(0), Value::Flag(0), Value::Flag(0), Value::Whole(0)];
 
 /// The ten outputs of an accepted tick, in the order in which they are printed.
 #[repr(C)]
@@ -109,6 +114,9 @@ pub struct AirBox {
     /// Which of the controller's fields are of the sensor alarm's delay.
     #[cfg(fields)]
     of_sensor_delay: Vec<bool>,
+    /// What the box keeps of the last accepted tick, in the order of its paths.
+    #[cfg(fields)]
+    kept: [Value; 5],
     pub last: Option<f64>,
     pub quiet: bool,
     pub flows: Flows,
@@ -125,6 +133,8 @@ impl AirBox {
             controller,
             beside: None,
             reckoning: None,
+            #[cfg(fields)]
+            kept: NOTHING_KEPT,
             last: None,
             quiet: false,
             flows: USUAL,
@@ -144,6 +154,10 @@ impl AirBox {
             self.controller = self.texts.usual[usize::from(self.quiet)]();
             self.beside = None;
             self.reckoning = None;
+            #[cfg(fields)]
+            {
+                self.kept = NOTHING_KEPT;
+            }
             self.last = None;
         }
     }
@@ -173,6 +187,8 @@ impl AirBox {
                 self.last = Some(tick.t);
                 FLOWS.set(self.flows);
                 let answer = self.controller.answer(tick);
+                #[cfg(fields)]
+                self.keep(tick, &answer);
                 self.hold(tick, &answer);
                 Ok(answer)
             }
@@ -201,7 +217,21 @@ impl AirBox {
         let choices = ["quiet", "design_minimum_flow", "design_cooling_maximum_flow", "second_reading"];
         paths.push("last.time".into());
         paths.extend(choices.map(|name| format!("last.choices.{name}")));
+        let kept = ["present", "fan", "flow_by_memory", "damper_by_memory", "mode"];
+        paths.extend(kept.map(|name| format!("last.tick.{name}")));
         paths
+    }
+
+    /// What the box keeps of an accepted tick. A comparison with a dead band was decided by its memory where its two tests disagree: the Rust's
+    /// `greater_hysteretic` and `less_hysteretic` make the one or the other, by the memory.
+    #[cfg(fields)]
+    fn keep(&mut self, tick: &Tick, answer: &Answer) {
+        let limit = 0.1 * self.flows.maximum;
+        let command = answer.floats[DAMPER];
+        let flow_by_memory = (tick.flow > limit) != (tick.flow > limit - 0.01);
+        let damper_by_memory = (command < 0.01) != (command < 0.01 + 0.5 * 0.01);
+        let [present, fan, flow, damper] = [true, tick.status & 4 != 0, flow_by_memory, damper_by_memory].map(|flag| Value::Flag(flag.into()));
+        self.kept = [present, fan, flow, damper, Value::Whole(tick.mode)];
     }
 
     /// Their values, in the same order.
@@ -213,6 +243,7 @@ impl AirBox {
         let [minimum, maximum] = [self.flows.minimum, self.flows.maximum].map(|flow| Value::Float(flow.to_bits()));
         let [quiet, second] = [self.quiet, self.second()].map(|flag| Value::Flag(flag.into()));
         values.extend([Value::time(self.last), quiet, minimum, maximum, second]);
+        values.extend(self.kept);
     }
 
     /// Stop unless the text beside has the same state, for the second reading but for the sensor alarm's delay.

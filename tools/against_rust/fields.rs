@@ -83,6 +83,7 @@ macro_rules! single_fields {
 single_fields! {
     bool: |flag| Value::Flag(u8::from(flag));
     u8: Value::Flag;
+    u16: |number| Value::Whole(number.into());
     i64: Value::Whole;
     f64: |number| Value::Float(number.to_bits());
     Option<f64>: Value::time;

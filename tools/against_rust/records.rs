@@ -55,7 +55,8 @@ fn c_field(line: &str) -> Known<(String, String)> {
         return Err(format!("a field that is not known: {line}"));
     };
     let t = match c_type {
-        "bool" => "u8",
+        "bool" | "uint8_t" => "u8",
+        "uint16_t" => "u16",
         "int64_t" => "i64",
         "double" => "f64",
         record if is_name(record) && record.starts_with("AirBox") => record,

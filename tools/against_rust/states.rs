@@ -1,5 +1,6 @@
 //! `states LINES`: lets the port's archive and the published Rust take so many lines of standard input, and compares every field of the two boxes
 //! after each. A refused tick is compared as well: both give its number, and no field moves. A refused building moves no byte of the port's box.
+//! After each line the reasons why there is no alarm, asked of the archive, are those that the words make of the accepted ticks.
 
 use std::process::ExitCode;
 
@@ -7,12 +8,14 @@ mod answer;
 mod drive;
 mod fields;
 mod port;
+mod reasons;
 mod reckoning;
 mod stubs;
 mod tick;
 
 use answer::{AirBox, Answer, texts};
 use fields::{Fields, Pairs, Place, Value};
+use reasons::{Reason, Reasons};
 use tick::{Building, Line, Tick, USUAL};
 
 // Written by the build: `mod oracle`, and the modules around the published files, as they are, sized and with the second reading, plain and quiet.
@@ -27,6 +30,7 @@ fn rust_path(place: &Place) -> String {
 struct Both {
     port: port::AirBox,
     rust: AirBox,
+    reasons: Reasons,
     pairs: Pairs,
     port_values: Vec<Value>,
     rust_values: Vec<Value>,
@@ -38,7 +42,13 @@ struct Both {
     second: u64,
     /// Buildings that were refused.
     refused: u64,
+    /// Of the accepted ticks, those with each reason of `NUMBERS`, and those at which memory had decided of the flow and of the damper.
+    reasoned: [[u64; 5]; 2],
+    by_memory: [u64; 2],
 }
+
+/// The reasons after an accepted tick, of the sensor alarm and of the leak alarm.
+const NUMBERS: [[u8; 5]; 2] = [[0, 61, 62, 65, 66], [0, 63, 64, 65, 66]];
 
 /// That both sides gave the same number.
 fn same_number(port: u8, rust: usize) -> Option<String> {
@@ -53,12 +63,15 @@ impl Both {
             port: port::AirBox::fresh(false),
             pairs: Pairs::new(port_paths, rust.paths())?,
             rust,
+            reasons: Reasons::new(false, false, USUAL.maximum),
             port_values: Vec::new(),
             rust_values: Vec::new(),
             accepted: [0; 2],
             sized: 0,
             second: 0,
             refused: 0,
+            reasoned: [[0; 5]; 2],
+            by_memory: [0; 2],
         })
     }
 
@@ -87,27 +100,64 @@ impl Both {
             return Some("a refused building wrote the box".into());
         }
         self.refused += u64::from(number != 0);
-        same_number(number, self.rust.build(building)).or_else(|| self.difference())
+        if number == 0 {
+            self.reasons = Reasons::new(building.second(), building.start == 2, building.flows.maximum);
+        }
+        same_number(number, self.rust.build(building)).or_else(|| self.difference()).or_else(|| self.other_reason())
     }
 
     fn tick(&mut self, tick: &Tick) -> Option<String> {
         if tick.start != 0 {
             self.rust.start(tick.start);
             self.port = port::AirBox::fresh(tick.start == 2);
+            self.reasons = Reasons::new(false, tick.start == 2, USUAL.maximum);
         }
         if self.rust.last.is_none() {
-            let fresh = self.difference();
+            let fresh = self.difference().or_else(|| self.other_reason());
             if fresh.is_some() {
                 return fresh.map(|text| format!("fresh box: {text}"));
             }
         }
         let mut output = Answer { floats: [0.0; 5], integers: [0; 5] };
         let number = self.port.tick(&port::port_tick(tick), &mut output);
-        let refusal = self.rust.tick(tick).err().unwrap_or(0);
+        let answer = self.rust.tick(tick);
+        if let Ok(answer) = &answer {
+            self.take_reasons(tick, answer.floats[answer::DAMPER]);
+        }
+        let refusal = answer.err().unwrap_or(0);
         self.accepted[usize::from(self.rust.quiet)] += u64::from(number == 0);
         self.sized += u64::from(number == 0 && self.rust.flows != USUAL);
         self.second += u64::from(number == 0 && self.rust.second());
-        same_number(number, refusal).or_else(|| self.difference())
+        same_number(number, refusal).or_else(|| self.difference()).or_else(|| self.other_reason())
+    }
+
+    /// The reasons after an accepted tick with this damper command.
+    fn take_reasons(&mut self, tick: &Tick, command: f64) {
+        self.reasons.take(tick, command);
+        let Reasons { sensor, leak, .. } = self.reasons;
+        for (alarm, reason) in [sensor, leak].into_iter().enumerate() {
+            let place = NUMBERS[alarm].iter().position(|&number| number == reason.number);
+            self.reasoned[alarm][place.expect("a reason after an accepted tick")] += 1;
+        }
+        self.by_memory[0] += u64::from(leak.flow_by_memory);
+        self.by_memory[1] += u64::from(leak.damper_by_memory);
+    }
+
+    /// A reason of the archive's that is not the reckoned one, as a text.
+    fn other_reason(&self) -> Option<String> {
+        let (sensor, leak) = (self.port.sensor_reason(), self.port.leak_reason());
+        let reason = |number, seconds_lacking, damper: u8, flow: u8| Reason {
+            number,
+            seconds_lacking,
+            damper_by_memory: damper != 0,
+            flow_by_memory: flow != 0,
+        };
+        let asked = [
+            reason(sensor.reason, sensor.seconds_lacking, 0, sensor.flow_by_memory),
+            reason(leak.reason, leak.seconds_lacking, leak.damper_by_memory, leak.flow_by_memory),
+        ];
+        let reckoned = [self.reasons.sensor, self.reasons.leak];
+        (asked != reckoned).then(|| format!("the reasons differ\n  port      {asked:?}\n  reckoned  {reckoned:?}"))
     }
 
     /// Flips each bit of each field of the port's record in turn. The field, and it alone, has to be told by its path; but the bits of the
@@ -143,10 +193,12 @@ impl Both {
 fn run(lines: u64) -> Result<String, String> {
     let mut both = Both::new()?;
     drive::each_line(lines, |line| both.take(line))?;
-    let Both { accepted: [plain, quiet], sized, second, refused, .. } = both;
+    let Both { accepted: [plain, quiet], sized, second, refused, reasoned: [sensor, leak], by_memory, .. } = both;
     let accepted = format!("accepted {plain} plain, {quiet} quiet, {sized} of them of other sizes, {second} with the second reading");
     let counts = format!("{accepted}; {refused} buildings refused, no byte written");
-    if [plain, quiet, sized, second, refused].contains(&0) {
+    let reasons = format!("ticks with each of the reasons {NUMBERS:?}: {sensor:?} and {leak:?}; memory decided of flow and damper {by_memory:?}");
+    let counts = format!("{counts}\n{reasons}");
+    if [&[plain, quiet, sized, second, refused][..], &sensor, &leak, &by_memory].concat().contains(&0) {
         return Err(format!("{counts}: too few to compare"));
     }
     both.flip_every_bit()?;
