@@ -89,7 +89,7 @@
    start the first tick counts as such a beginning. With a plain start what is there from the first tick on is never held.
    Beside the reason, whichever it is, stands whether memory decided. That flow is high, and that the damper is closed, are comparisons with a dead band in
    which the answer before stays: a flow above a tenth of the maximum less 0.01 and not above the tenth, a damper command from 0.01 to below 0.015. A flag says
-   that with the other memory that tick would have got the other answer. Before the first accepted tick the flags are false.
+   that with the other memory that comparison would have given the other answer. Before the first accepted tick the flags are false.
 
    What the archive needs and takes.
    - x86-64 with the System V ABI, as on Linux and the BSDs. No other processor, and not the ABI of Windows. SSE2 is enough.

@@ -196,8 +196,10 @@ fn run(lines: u64) -> Result<String, String> {
     let Both { accepted: [plain, quiet], sized, second, refused, reasoned: [sensor, leak], by_memory, .. } = both;
     let accepted = format!("accepted {plain} plain, {quiet} quiet, {sized} of them of other sizes, {second} with the second reading");
     let counts = format!("{accepted}; {refused} buildings refused, no byte written");
-    let reasons = format!("ticks with each of the reasons {NUMBERS:?}: {sensor:?} and {leak:?}; memory decided of flow and damper {by_memory:?}");
-    let counts = format!("{counts}\n{reasons}");
+    let each = |numbers: [u8; 5], ticks: [u64; 5]| [0, 1, 2, 3, 4].map(|i| format!("{} after {}", numbers[i], ticks[i])).join(", ");
+    let [sensors, leaks] = [each(NUMBERS[0], sensor), each(NUMBERS[1], leak)];
+    let [flow, damper] = by_memory;
+    let counts = format!("{counts}\nreasons: sensor {sensors}; leak {leaks}; memory decided of flow {flow}, of damper {damper}");
     if [&[plain, quiet, sized, second, refused][..], &sensor, &leak, &by_memory].concat().contains(&0) {
         return Err(format!("{counts}: too few to compare"));
     }

@@ -395,7 +395,7 @@ impl fmt::Display for NoAlarmReason {
 #[derive(Clone, Copy, Debug, PartialEq, Eq, Hash)]
 pub struct SensorReason {
     pub reason: NoAlarmReason,
-    /// Memory decided whether the flow is high: with the other memory that tick would have got the other answer.
+    /// Memory decided whether the flow is high: with the other memory the comparison would have given the other answer.
     pub flow_by_memory: bool,
 }
 
