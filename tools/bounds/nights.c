@@ -3,13 +3,12 @@
    nothing. The first tick that breaks this is written to standard error, and ends the program with status 1. Else the lowest and the highest that were
    met are written beside the bounds. The arguments are the ticks of each of the two, those that a search tries on copies among them, and the bound of the
    damper's integrator for other sizes. */
-#include <math.h>
 #include <stdlib.h>
-#include "air_box.h"
+#include "../hostile.h"
 #include "output.h"
 
-static const double LAST_TIME = 2147483648.0, MAXIMUM = 1.5, MINIMUM = 0.5, LARGEST_MAXIMUM = 10.0;
-enum { MOST_STEP = 240, STRETCH_TICKS = 800, ROUNDS = 30, TRIES = 24, LONGEST_TRY = 4, STANDING = 20 };
+static const double MAXIMUM = 1.5, MINIMUM = 0.5, LARGEST_MAXIMUM = 10.0;
+enum { STRETCH_TICKS = 800, ROUNDS = 30, TRIES = 24, LONGEST_TRY = 4, STANDING = 20 };
 
 /* ---- what is looked at */
 
@@ -104,17 +103,6 @@ static void good_tick(AirBox *box, const AirBoxTick *tick, double *values) {
 }
 
 /* ---- chance */
-
-/* The next bits of a xorshift generator. */
-static uint64_t bits(void) {
-    static uint64_t state = 20260501;
-    state ^= state << 13;
-    state ^= state >> 7;
-    return state ^= state << 17;
-}
-
-static uint64_t below(uint64_t count) { return (bits() >> 11) % count; }
-static double between(double low, double high) { return low + (high - low) * (double)(bits() >> 11) / 9007199254740992.0; }
 
 /* How a reading goes from tick to tick. */
 typedef enum { LOW, HIGH, SWITCHED, SWITCHED_BACK, EITHER_END, ANYWHERE, PATTERNS } Pattern;
@@ -245,28 +233,6 @@ static AirBoxTick nth_tick(const Stretch *stretch, unsigned long n, const AirBox
     return (AirBoxTick){time_after(box, first, reading(&stretch->step, n)), input};
 }
 
-/* Makes the tick one that is refused, for a reason of chance. */
-static void spoil(const AirBox *box, AirBoxTick *tick) {
-    static const double odd[] = {NAN, INFINITY, -INFINITY, 1e300};
-    double far = odd[below(4)];
-    bool by_much = below(2) == 0, one = below(2) == 0;
-    uint64_t which = below(TEMPERATURES);
-    AirBoxInput *in = &tick->input;
-    double *temperatures[TEMPERATURES] = {&in->zone_temperature, &in->cooling_setpoint, &in->heating_setpoint, &in->discharge_air_temperature,
-                                          &in->supply_air_temperature};
-    bool has_last = box->last.time.present;
-    switch (below(8)) {
-    case 0: tick->t += 0.5; break;
-    case 1: tick->t = far; break;
-    case 2: tick->t = one ? -1.0 : LAST_TIME + 1.0; break;
-    case 3: tick->t = has_last ? box->last.time.time - 1.0 : -1.0; break;
-    case 4: tick->t = has_last ? box->last.time.time + MOST_STEP + 1.0 : far; break;
-    case 5: *temperatures[which] = by_much ? far : one ? 149.9999 : 450.0001; break;
-    case 6: *(one ? &in->co2_setpoint : &in->co2_concentration) = by_much ? far : -5e-324; break;
-    default: in->discharge_airflow = by_much ? far : one ? 10.0001 : -10.0001; break;
-    }
-}
-
 /* A building that has to be refused, and to change no byte. */
 static void bad_building(AirBox *box) {
     static const double flows[][2] = {{NAN, 1.5}, {-5e-324, 1.5}, {1.5001, 1.5}, {0.0, 0.0999}, {0.5, 10.0001}, {0.5, INFINITY}, {0.5, NAN}};
@@ -284,7 +250,7 @@ static void bad_tick(AirBox *box, AirBoxTick tick) {
     memset(&output, 0x5a, sizeof output);
     memcpy(&untouched, &output, sizeof output);
     memcpy(&before, box, sizeof before);
-    spoil(box, &tick);
+    spoil(&tick, box->last.time.present, box->last.time.time);
     if (air_box_tick(box, &tick, &output) == AIR_BOX_ACCEPTED) wrong("a tick out of range was accepted", box, &tick);
     refused++;
     if (memcmp(&before, box, sizeof before) != 0) wrong("a refused tick changed the box", box, &tick);
