@@ -1,5 +1,9 @@
-/* What the dispatcher reads: runs the ticks and buildings on standard input, in the line format of the program `ticks`, and prints a line at
-   the first accepted tick and whenever the desk code changes: the time of the tick, the code and its meaning.
+/* What the dispatcher reads: runs the ticks and buildings on standard input, in the line format of the program `ticks`, and prints the time of a tick, the
+   desk code, its meaning, and for the sensor alarm and the leak alarm the reason why it does not stand: at the first accepted tick, whenever the code changes,
+   whenever one of the two begins or ceases to be held, that is, to wait out its 600 seconds, and whenever memory begins or ceases to have a say in one that
+   is held. So an alarm is seen to come before it stands, and it is seen where it does not come. Other changes of a reason have no line.
+   What the line tells of the fan already is left out: the sensor alarm's `fan on` beside a code for which the fan runs, the leak alarm's `fan off` where the
+   sensor alarm or its reason has it off.
    A refused tick or building has a line with dashes for the time, the number of the refusal and its meaning; a line that is neither has one too. */
 #define _POSIX_C_SOURCE 200809L
 #include <inttypes.h>
@@ -16,7 +20,7 @@ static const char *meaning(int code) {
     }
 }
 
-static const char *reason(int number) {
+static const char *refusal(int number) {
     switch (number) {
     case AIR_BOX_NOT_WHOLE_SECONDS: return "the time is no whole number of seconds";
     case AIR_BOX_TIME_OUT_OF_RANGE: return "the time is out of range";
@@ -29,31 +33,111 @@ static const char *reason(int number) {
     }
 }
 
+/* An alarm's reason why it does not stand, or that it stands, and whether memory decided of the flow and of the damper. */
+typedef struct { const char *alarm; uint8_t reason; unsigned seconds_lacking; bool flow_by_memory, damper_by_memory; } Why;
+
+/* What a line shows after a tick. */
+enum { SENSOR, LEAK, ALARMS };
+typedef struct { int code; Why why[ALARMS]; } Shown;
+
+static Shown shown_after(const AirBox *box, const AirBoxOutput *o) {
+    AirBoxSensorReason sensor = air_box_sensor_reason(box);
+    AirBoxLeakReason leak = air_box_leak_reason(box);
+    int code = air_box_desk_code(o->low_airflow_alarm, o->airflow_sensor_alarm, o->leaking_damper_alarm);
+    return (Shown){code, {{"sensor alarm", sensor.reason, sensor.seconds_lacking, sensor.flow_by_memory, false},
+                          {"leak alarm", leak.reason, leak.seconds_lacking, leak.flow_by_memory, leak.damper_by_memory}}};
+}
+
+static const char *words(uint8_t reason) {
+    switch (reason) {
+    case AIR_BOX_NOT_OCCUPIED: return "mode not 1";
+    case AIR_BOX_FAN_ON: return "fan on";
+    case AIR_BOX_FAN_OFF: return "fan off";
+    case AIR_BOX_DAMPER_NOT_CLOSED: return "damper not closed";
+    default: return "flow not high";
+    }
+}
+
+/* The flow, as far as the reason tells it. */
+static const char *flow(uint8_t reason) {
+    if (reason == AIR_BOX_ALARM_STANDS || reason == AIR_BOX_HELD) return "flow high";
+    return reason == AIR_BOX_FLOW_NOT_HIGH ? "flow not high" : "flow";
+}
+
+/* The damper, as far as the leak alarm's reason tells it. */
+static const char *damper(uint8_t reason) {
+    if (reason == AIR_BOX_FAN_OFF) return "damper";
+    return reason == AIR_BOX_DAMPER_NOT_CLOSED ? "damper not closed" : "damper closed";
+}
+
+/* What memory decided. */
+static bool put_memory(const Why *why) {
+    if (why->damper_by_memory && !put(", %s by memory", damper(why->reason))) return false;
+    return !why->flow_by_memory || put(", %s by memory", flow(why->reason));
+}
+
+static bool put_why(const Why *why) {
+    bool held = why->reason == AIR_BOX_HELD;
+    bool written = held ? put("%s held, %u s lacking", why->alarm, why->seconds_lacking) : put("%s: %s", why->alarm, words(why->reason));
+    return written && put_memory(why);
+}
+
+/* Whether the line tells the reason already. */
+static bool is_told(const Shown *shown, uint8_t reason) {
+    if (reason == AIR_BOX_FAN_ON) return shown->code != AIR_BOX_DESK_NO_ALARM;
+    return reason == AIR_BOX_FAN_OFF && shown->why[SENSOR].reason != AIR_BOX_NOT_OCCUPIED;
+}
+
 /* The line of an accepted tick. */
-static bool put_code(double t, int code) {
+static bool put_shown(double t, const Shown *shown) {
     int64_t seconds = (int64_t)t;
-    return put("%02" PRId64 ":%02" PRId64 ":%02" PRId64 "  %2d  %s\n", seconds / 3600, seconds / 60 % 60, seconds % 60, code, meaning(code));
+    int code = shown->code;
+    const char *before = code == AIR_BOX_DESK_NO_ALARM ? ": " : "; ";
+    if (!put("%02" PRId64 ":%02" PRId64 ":%02" PRId64 "  %2d  %s", seconds / 3600, seconds / 60 % 60, seconds % 60, code, meaning(code))) return false;
+    for (int n = 0; n < ALARMS; n++) {
+        const Why *why = &shown->why[n];
+        if (why->reason == AIR_BOX_ALARM_STANDS && !put_memory(why)) return false;
+    }
+    for (int n = 0; n < ALARMS; n++) {
+        const Why *why = &shown->why[n];
+        if (why->reason == AIR_BOX_ALARM_STANDS || is_told(shown, why->reason)) continue;
+        if (!put("%s", before) || !put_why(why)) return false;
+        before = "; ";
+    }
+    return put("\n");
+}
+
+/* Whether nothing has happened that the reader has to know. */
+static bool is_same(const Shown *one, const Shown *other) {
+    bool same = one->code == other->code;
+    for (int n = 0; n < ALARMS; n++) {
+        const Why *a = &one->why[n], *b = &other->why[n];
+        bool held = a->reason == AIR_BOX_HELD;
+        same = same && held == (b->reason == AIR_BOX_HELD);
+        same = same && (!held || (a->flow_by_memory == b->flow_by_memory && a->damper_by_memory == b->damper_by_memory));
+    }
+    return same;
 }
 
 static bool put_refusal(uint8_t number) {
-    return put("--:--:--  refused %d: %s\n", number, reason(number));
+    return put("--:--:--  refused %d: %s\n", number, refusal(number));
 }
 
-/* Runs one tick, and writes its line if the reader has to know: of a refusal always, else where the code is not the one shown last. */
-static bool put_tick(AirBox *box, const AirBoxTick *tick, int *shown) {
+/* Runs one tick, and writes its line if the reader has to know: of a refusal always, else where it is not as the last line shows it. */
+static bool put_tick(AirBox *box, const AirBoxTick *tick, Shown *last) {
     AirBoxOutput o = {0};
     uint8_t number = air_box_tick(box, tick, &o);
     if (number != AIR_BOX_ACCEPTED) return put_refusal(number);
-    int code = air_box_desk_code(o.low_airflow_alarm, o.airflow_sensor_alarm, o.leaking_damper_alarm);
-    if (code == *shown) return true;
-    *shown = code;
-    return put_code(tick->t, code);
+    Shown shown = shown_after(box, &o);
+    if (is_same(&shown, last)) return true;
+    *last = shown;
+    return put_shown(tick->t, &shown);
 }
 
 /* Lets the box take a line that was read. A box that is built has no line of its own. */
-static bool take(AirBox *box, const Line *line, int *shown) {
+static bool take(AirBox *box, const Line *line, Shown *last) {
     if (line->kind == MALFORMED) return put("--:--:--      this line is no tick and builds no box\n");
-    if (line->kind == A_TICK) return put_tick(box, &line->tick, shown);
+    if (line->kind == A_TICK) return put_tick(box, &line->tick, last);
     uint8_t number = air_box_build(box, line->choices);
     return number == AIR_BOX_BUILT || put_refusal(number);
 }
@@ -61,10 +145,10 @@ static bool take(AirBox *box, const Line *line, int *shown) {
 int main(void) {
     AirBox box = air_box_fresh(false);
     Line line;
-    int shown = -1;
+    Shown last = {-1, {{0}, {0}}};
     while (next_line(&box, &line) != END_OF_INPUT) {
         if (line.kind == READ_FAILED) return cannot("desk", "read the ticks");
-        if (!take(&box, &line, &shown)) return cannot("desk", "write the night");
+        if (!take(&box, &line, &last)) return cannot("desk", "write the night");
     }
     return close_output() ? 0 : cannot("desk", "write the night");
 }
