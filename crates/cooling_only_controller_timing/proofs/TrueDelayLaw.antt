@@ -33,12 +33,12 @@ on_init_at_the_first_alone s t true delay_time delay_on_init p e = rw e
 on_init_at_the_first_alone s t false delay_time delay_on_init p e = refl
 
 -- ---- a delay, and the larger of it and 0, are reached by the same whole numbers
-number_if_reached : (x : Float) (d : ℕ) → Reach x d → T (not (is_nan x))
+pub number_if_reached : (x : Float) (d : ℕ) → Reach x d → T (not (is_nan x))
 number_if_reached x d reach =
     let y = fin false d (pos 0) in
     (le_numbers x y (subst T (sym (reach y d (refl, λ q. absurd q))) (le→leb d d (le_refl d)))).0
 
-max_reached : (x : Float) (d : ℕ) → Reach x d → Reach (max x zero) d
+pub max_reached : (x : Float) (d : ℕ) → Reach x d → Reach (max x zero) d
 unfolding max eq
 max_reached x d reach y n w = go (is_nan x) (lt x zero) (eq x zero) (number_if_reached x d reach) (lt→le x zero) (eq→le x zero)
   where
@@ -96,7 +96,7 @@ true_since_later d on_init later_on_init f a b l [] o = f o
 true_since_later d on_init later_on_init f a b l (k ∷ h) o = (o.0, ⊎_elim (λ e. inl (omega arith)) (λ r. inr (true_since_later d on_init later_on_init f a b l h r)) o.1)
 
 -- ---- what holds of the state after a history
-abbrev sample : Float → Bool → Sample
+abbrev pub sample : Float → Bool → Sample
 sample t u = record { time = t; input = u }
 
 -- The newest sample, at t, has a true input. The timer is the time since the oldest sample of its run of true inputs: at each later `now` the run is long enough exactly if the timer and the time since t reach d.
@@ -121,7 +121,7 @@ counts_from_zero : (d : ℕ) (delay_on_init : Bool) (h : List Sample) (t : Float
 counts_from_zero d delay_on_init h t none = (0, zero_whole, zero-le, λ now l. (λ o. ⊎_elim (λ e. omega arith) (λ z. absurd (none now z)) o.1, λ e. (tt, inl (omega arith))))
 
 -- the timer's next value is exact
-next_whole : (t p x : Float) (n : ℕ) → IsTime t → IsTime p → seconds p ≤ seconds t → Whole x n → n ≤ seconds p → Whole (x ⊕ max (t ⊖ p) zero) (n + (seconds t - seconds p))
+pub next_whole : (t p x : Float) (n : ℕ) → IsTime t → IsTime p → seconds p ≤ seconds t → Whole x n → n ≤ seconds p → Whole (x ⊕ max (t ⊖ p) zero) (n + (seconds t - seconds p))
 next_whole t p x n it ip l w b =
     let gap : Whole (max (t ⊖ p) zero) (seconds t - seconds p) =
     subst (Whole (max (t ⊖ p) zero)) (maxℕ-zero (seconds t - seconds p))
