@@ -1,7 +1,8 @@
 -- The flow-high rule, for any limit: what `greater_hysteretic` does step by step along accepted ticks is what document 01 says over the history. By the law of the dead band. Assumes nothing.
 use mathlib.Core.Path.{◌≡◌, refl, subst}
-use mathlib.Core.Logic.{◌↔◌, inl, inr}
-use mathlib.Core.List.{List, [], ◌∷◌, ◌++◌, append_assoc, append-nil}
+use mathlib.Core.Logic.Iff
+use mathlib.Core.Logic.{◌↔◌}
+use mathlib.Core.List.{List, [], ◌∷◌}
 use mathlib.Core.Bool.{Bool}
 use lib.Dec.{T}
 use lib.Ieee.{Float, binary64, fits, round, le}
@@ -16,7 +17,8 @@ use Rattle.cdl_recurrences.proofs.DeadBandLaw.{OnSince, on_since_law, dead_band_
 use Rattle.air_box.specs.declared.Tick.{Tick}
 use Rattle.nights.specs.Nights.{flow, AllAbove, FlowHigh, flow_high_stepped}
 use Rattle.nights.specs.Demand3.{H, FlowHighRule}
-use Rattle.nights.proofs.Histories.{in_order, extended, in_order_extended, history_of_parts}
+use Rattle.nights.proofs.Histories.{in_order, extended, in_order_extended}
+use Rattle.nights.proofs.TurnedOn.{TurnedOn, turned_on_law}
 
 -- whether flow is high after a history, by the memory's steps
 abbrev pub high_after : Float → List Tick → Bool
@@ -40,23 +42,15 @@ module _ (limit : Float) (held : T (fits binary64 limit)) where
   unfolding greater_hysteretic
   high_since = on_since_law rises stays rises_stays
 
-  -- the tick at which the flow rose stands in h, and the flow stayed above at the ticks `since`
-  rise_found : (h since : List Tick) → OnSince rises stays h → AllAbove below since → FlowHigh limit (in_order h ++ since)
-  rise_found [] since o a = absurd o
-  rise_found (k ∷ h) since (inl r) a =
-      record { before = in_order h; rise = k; since = since; parts = append_assoc (in_order h) (k ∷ []) since; above = r; stays_above = (rises_stays k r, a) }
-  rise_found (k ∷ h) since (inr o) a = rw append_assoc (rise_found h (k ∷ since) o.1 (o.0, a))
-
-  stays_high : (h since : List Tick) → OnSince rises stays h → AllAbove below since → OnSince rises stays (extended h since)
-  stays_high h [] o a = o
-  stays_high h (k ∷ since) o a = stays_high (k ∷ h) since (inr (a.0, o)) a.1
+  in_order_law : (h : List Tick) → OnSince rises stays h ↔ TurnedOn rises (AllAbove below) (in_order h)
+  in_order_law = turned_on_law rises stays rises_stays (AllAbove below) tt (λ k ks. Iff.rfl)
 
   pub high_law : (h : List Tick) → T (high_after limit h) ↔ FlowHigh limit (in_order h)
   high_law h = (
-    λ t. subst (FlowHigh limit) (append-nil (in_order h)) (rise_found h [] ((high_since h).0 t) tt),
+    λ t. let f = (in_order_law h).0 ((high_since h).0 t) in
+        record { before = f.before; rise = f.start; since = f.since; parts = f.parts; above = f.turned_on; stays_above = f.stayed },
     λ f. (high_since h).1
-        (subst (OnSince rises stays) (history_of_parts h f.before f.rise f.since f.parts)
-        (stays_high (f.rise ∷ extended [] f.before) f.since (inl f.above) f.stays_above.1)),
+        ((in_order_law h).1 (record { before = f.before; start = f.rise; since = f.since; parts = f.parts; turned_on = f.above; stayed = f.stays_above })),
   )
 
   -- two histories, tick by tick with a flow that is not lower in the second

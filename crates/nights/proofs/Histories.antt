@@ -5,26 +5,27 @@ use Rattle.air_box.specs.declared.Tick.{Tick}
 use Rattle.std.proofs.Common.{None, Float, Some, Option}
 use Rattle.nights.specs.Nights.{last_time}
 
--- the ticks of a history, the oldest first
-abbrev pub in_order : List Tick → List Tick
-in_order [] = []
-in_order (k ∷ h) = in_order h ++ (k ∷ [])
+module _ {A : Type 0} where
+  -- what a history holds, the oldest first
+  abbrev pub in_order : List A → List A
+  in_order [] = []
+  in_order (k ∷ h) = in_order h ++ (k ∷ [])
 
--- the history after h and then the ticks ks
-abbrev pub extended : List Tick → List Tick → List Tick
-extended h ks = reverse_aux ks h
+  -- the history after h and then the ticks ks
+  abbrev pub extended : List A → List A → List A
+  extended h ks = reverse_aux ks h
 
-pub in_order_extended : (h ks : List Tick) → in_order (extended h ks) ≡ in_order h ++ ks
-in_order_extended h [] = sym (append-nil (in_order h))
-in_order_extended h (k ∷ ks) = in_order_extended (k ∷ h) ks ∙ append_assoc (in_order h) (k ∷ []) ks
+  pub in_order_extended : (h ks : List A) → in_order (extended h ks) ≡ in_order h ++ ks
+  in_order_extended h [] = sym (append-nil (in_order h))
+  in_order_extended h (k ∷ ks) = in_order_extended (k ∷ h) ks ∙ append_assoc (in_order h) (k ∷ []) ks
 
-extended_in_order : (h : List Tick) → extended [] (in_order h) ≡ h
-extended_in_order [] = refl
-extended_in_order (k ∷ h) = reverse_aux-append (in_order h) (k ∷ []) [] ∙ ap (λ (l : List Tick). k ∷ l) (extended_in_order h)
+  extended_in_order : (h : List A) → extended [] (in_order h) ≡ h
+  extended_in_order [] = refl
+  extended_in_order (k ∷ h) = reverse_aux-append (in_order h) (k ∷ []) [] ∙ ap (λ (l : List A). k ∷ l) (extended_in_order h)
 
--- the history whose ticks in order are `before`, then k, then `since`
-pub history_of_parts : (h before : List Tick) (k : Tick) (since : List Tick) → in_order h ≡ before ++ (k ∷ since) → extended (k ∷ extended [] before) since ≡ h
-history_of_parts h before k since e = sym (reverse_aux-append before (k ∷ since) []) ∙ ap (extended []) (sym e) ∙ extended_in_order h
+  -- the history whose ticks in order are `before`, then k, then `since`
+  pub history_of_parts : (h before : List A) (k : A) (since : List A) → in_order h ≡ before ++ (k ∷ since) → extended (k ∷ extended [] before) since ≡ h
+  history_of_parts h before k since e = sym (reverse_aux-append before (k ∷ since) []) ∙ ap (extended []) (sym e) ∙ extended_in_order h
 
 -- ---- the time of the newest tick
 abbrev pub newest_time : List Tick → Option Float

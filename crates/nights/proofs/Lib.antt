@@ -1,4 +1,5 @@
 pub mod Histories
+pub mod TurnedOn
 pub mod AcceptedTicks
 pub mod Grown
 pub mod FlowHighRule
@@ -11,3 +12,10 @@ pub mod LowAirflowAlarm
 pub mod QuietStart
 pub mod OtherSizes
 pub mod SecondReading
+pub mod AfterNights
+pub mod LastRise
+pub mod LeakAlarm
+pub mod FirstTrue
+pub mod WhyNoAlarm
+pub mod BoxBefore
+pub mod ReasonNights

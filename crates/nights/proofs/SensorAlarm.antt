@@ -72,12 +72,12 @@ on_after second quiet limit h =
 abbrev pub sensor_on_after : Choices → List Tick → Bool
 sensor_on_after choices h = on_after choices.second_reading choices.quiet (H choices) h
 
-flow_high_kept : (choices : Choices) (h : List Tick) → (grown choices h).state.alarms.flow_high ≡ high_after (H choices) h
+pub flow_high_kept : (choices : Choices) (h : List Tick) → (grown choices h).state.alarms.flow_high ≡ high_after (H choices) h
 unfolding accepted_tick controller_output alarms
 flow_high_kept choices [] = refl
 flow_high_kept choices (k ∷ h) = rw (flow_high_kept choices h, grown_choices choices h)
 
-sensor_delay_kept : (choices : Choices) (h : List Tick) → (grown choices h).state.alarms.sensor_delay ≡ sensor_delay_after choices.quiet (sensor_input choices.second_reading (H choices)) h
+pub sensor_delay_kept : (choices : Choices) (h : List Tick) → (grown choices h).state.alarms.sensor_delay ≡ sensor_delay_after choices.quiet (sensor_input choices.second_reading (H choices)) h
 unfolding accepted_tick controller_output alarms
 sensor_delay_kept choices [] = refl
 sensor_delay_kept choices (k ∷ h) = rw (sensor_delay_kept choices h, flow_high_kept choices h, grown_choices choices h)

@@ -7,3 +7,6 @@ pub mod OtherSizes
 pub mod OneReading
 pub mod ButThatAlarm
 pub mod SecondReading
+pub mod WhyNoAlarm
+pub mod BoxBefore
+pub mod ReasonNights

@@ -114,7 +114,7 @@ HighFanOff limit earlier k = FlowHigh limit (earlier ++ (k ∷ [])) × T (not (f
 -- `Holds earlier k` says that it holds at the accepted tick k, before which those of `earlier` were accepted.
 
 -- it holds at each of the accepted ticks ks, which come after those of `earlier`
-abbrev pub HoldsAlong : (List Tick → Tick → Type 0) → List Tick → List Tick → Type 0
+abbrev pub HoldsAlong : {A : Type 0} → (List A → A → Type 0) → List A → List A → Type 0
 HoldsAlong Holds earlier [] = Unit
 HoldsAlong Holds earlier (k ∷ ks) = Holds earlier k × HoldsAlong Holds (earlier ++ (k ∷ [])) ks
 
