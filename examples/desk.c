@@ -58,22 +58,16 @@ static const char *words(uint8_t reason) {
     }
 }
 
-/* The flow, as far as the reason tells it. */
-static const char *flow(uint8_t reason) {
-    if (reason == AIR_BOX_ALARM_STANDS || reason == AIR_BOX_HELD) return "flow high";
-    return reason == AIR_BOX_FLOW_NOT_HIGH ? "flow not high" : "flow";
-}
+/* The flow and the damper, as far as a reason tells them that is of neither. */
+static const char *flow(uint8_t reason) { return reason == AIR_BOX_ALARM_STANDS || reason == AIR_BOX_HELD ? "flow high" : "flow"; }
+static const char *damper(uint8_t reason) { return reason == AIR_BOX_FAN_OFF ? "damper" : "damper closed"; }
 
-/* The damper, as far as the leak alarm's reason tells it. */
-static const char *damper(uint8_t reason) {
-    if (reason == AIR_BOX_FAN_OFF) return "damper";
-    return reason == AIR_BOX_DAMPER_NOT_CLOSED ? "damper not closed" : "damper closed";
-}
-
-/* What memory decided. */
+/* What memory decided. Where that is the reason itself, as in `flow not high by memory`, it is not said twice. */
 static bool put_memory(const Why *why) {
-    if (why->damper_by_memory && !put(", %s by memory", damper(why->reason))) return false;
-    return !why->flow_by_memory || put(", %s by memory", flow(why->reason));
+    bool of_flow = why->reason == AIR_BOX_FLOW_NOT_HIGH, of_damper = why->reason == AIR_BOX_DAMPER_NOT_CLOSED;
+    if (((of_flow && why->flow_by_memory) || (of_damper && why->damper_by_memory)) && !put(" by memory")) return false;
+    if (why->damper_by_memory && !of_damper && !put(", %s by memory", damper(why->reason))) return false;
+    return !why->flow_by_memory || of_flow || put(", %s by memory", flow(why->reason));
 }
 
 static bool put_why(const Why *why) {
