@@ -8,9 +8,12 @@ use crate::fields::Value;
 use crate::reckoning::Reckoning;
 use crate::tick::{Building, Flows, Tick, USUAL};
 
-/// The places of the damper command among the floats of an answer, and of the airflow sensor alarm among its integers.
-pub const DAMPER: usize = 1;
+/// The place of the airflow sensor alarm among the integers of an answer.
 const SENSOR: usize = 3;
+
+/// The place of the damper command among its floats.
+#[cfg(fields)]
+const DAMPER: usize = 1;
 
 /// What a box keeps that had no accepted tick.
 #[cfg(fields)]

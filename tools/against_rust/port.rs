@@ -51,8 +51,6 @@ unsafe extern "C" {
     fn air_box_fresh(quiet: bool) -> AirBox;
     fn air_box_build(record: *mut AirBox, choices: AirBoxChoices) -> u8;
     fn air_box_tick(record: *mut AirBox, tick: *const AirBoxTick, output: *mut Answer) -> u8;
-    fn air_box_sensor_reason(record: *const AirBox) -> AirBoxSensorReason;
-    fn air_box_leak_reason(record: *const AirBox) -> AirBoxLeakReason;
 }
 
 impl AirBox {
@@ -79,16 +77,6 @@ impl AirBox {
     /// 0, or the number of the refusal; the output is written only by an accepted tick.
     pub fn tick(&mut self, tick: &AirBoxTick, output: &mut Answer) -> u8 {
         unsafe { air_box_tick(self, tick, output) }
-    }
-
-    /// Why there is no sensor alarm.
-    pub fn sensor_reason(&self) -> AirBoxSensorReason {
-        unsafe { air_box_sensor_reason(self) }
-    }
-
-    /// Why there is no leak alarm.
-    pub fn leak_reason(&self) -> AirBoxLeakReason {
-        unsafe { air_box_leak_reason(self) }
     }
 }
 

@@ -1,6 +1,5 @@
 //! `states LINES`: lets the port's archive and the published Rust take so many lines of standard input, and compares every field of the two boxes
 //! after each. A refused tick is compared as well: both give its number, and no field moves. A refused building moves no byte of the port's box.
-//! After each line the reasons why there is no alarm, asked of the archive, are those that the words make of the accepted ticks.
 
 use std::process::ExitCode;
 
@@ -8,14 +7,12 @@ mod answer;
 mod drive;
 mod fields;
 mod port;
-mod reasons;
 mod reckoning;
 mod stubs;
 mod tick;
 
 use answer::{AirBox, Answer, texts};
 use fields::{Fields, Pairs, Place, Value};
-use reasons::{Reason, Reasons};
 use tick::{Building, Line, Tick, USUAL};
 
 // Written by the build: `mod oracle`, and the modules around the published files, as they are, sized and with the second reading, plain and quiet.
@@ -30,7 +27,6 @@ fn rust_path(place: &Place) -> String {
 struct Both {
     port: port::AirBox,
     rust: AirBox,
-    reasons: Reasons,
     pairs: Pairs,
     port_values: Vec<Value>,
     rust_values: Vec<Value>,
@@ -42,13 +38,7 @@ struct Both {
     second: u64,
     /// Buildings that were refused.
     refused: u64,
-    /// Of the accepted ticks, those with each reason of `NUMBERS`, and those at which memory had decided of the flow and of the damper.
-    reasoned: [[u64; 5]; 2],
-    by_memory: [u64; 2],
 }
-
-/// The reasons after an accepted tick, of the sensor alarm and of the leak alarm.
-const NUMBERS: [[u8; 5]; 2] = [[0, 61, 62, 65, 66], [0, 63, 64, 65, 66]];
 
 /// That both sides gave the same number.
 fn same_number(port: u8, rust: usize) -> Option<String> {
@@ -63,15 +53,12 @@ impl Both {
             port: port::AirBox::fresh(false),
             pairs: Pairs::new(port_paths, rust.paths())?,
             rust,
-            reasons: Reasons::new(false, false, USUAL.maximum),
             port_values: Vec::new(),
             rust_values: Vec::new(),
             accepted: [0; 2],
             sized: 0,
             second: 0,
             refused: 0,
-            reasoned: [[0; 5]; 2],
-            by_memory: [0; 2],
         })
     }
 
@@ -100,64 +87,27 @@ impl Both {
             return Some("a refused building wrote the box".into());
         }
         self.refused += u64::from(number != 0);
-        if number == 0 {
-            self.reasons = Reasons::new(building.second(), building.start == 2, building.flows.maximum);
-        }
-        same_number(number, self.rust.build(building)).or_else(|| self.difference()).or_else(|| self.other_reason())
+        same_number(number, self.rust.build(building)).or_else(|| self.difference())
     }
 
     fn tick(&mut self, tick: &Tick) -> Option<String> {
         if tick.start != 0 {
             self.rust.start(tick.start);
             self.port = port::AirBox::fresh(tick.start == 2);
-            self.reasons = Reasons::new(false, tick.start == 2, USUAL.maximum);
         }
         if self.rust.last.is_none() {
-            let fresh = self.difference().or_else(|| self.other_reason());
+            let fresh = self.difference();
             if fresh.is_some() {
                 return fresh.map(|text| format!("fresh box: {text}"));
             }
         }
         let mut output = Answer { floats: [0.0; 5], integers: [0; 5] };
         let number = self.port.tick(&port::port_tick(tick), &mut output);
-        let answer = self.rust.tick(tick);
-        if let Ok(answer) = &answer {
-            self.take_reasons(tick, answer.floats[answer::DAMPER]);
-        }
-        let refusal = answer.err().unwrap_or(0);
+        let refusal = self.rust.tick(tick).err().unwrap_or(0);
         self.accepted[usize::from(self.rust.quiet)] += u64::from(number == 0);
         self.sized += u64::from(number == 0 && self.rust.flows != USUAL);
         self.second += u64::from(number == 0 && self.rust.second());
-        same_number(number, refusal).or_else(|| self.difference()).or_else(|| self.other_reason())
-    }
-
-    /// The reasons after an accepted tick with this damper command.
-    fn take_reasons(&mut self, tick: &Tick, command: f64) {
-        self.reasons.take(tick, command);
-        let Reasons { sensor, leak, .. } = self.reasons;
-        for (alarm, reason) in [sensor, leak].into_iter().enumerate() {
-            let place = NUMBERS[alarm].iter().position(|&number| number == reason.number);
-            self.reasoned[alarm][place.expect("a reason after an accepted tick")] += 1;
-        }
-        self.by_memory[0] += u64::from(leak.flow_by_memory);
-        self.by_memory[1] += u64::from(leak.damper_by_memory);
-    }
-
-    /// A reason of the archive's that is not the reckoned one, as a text.
-    fn other_reason(&self) -> Option<String> {
-        let (sensor, leak) = (self.port.sensor_reason(), self.port.leak_reason());
-        let reason = |number, seconds_lacking, damper: u8, flow: u8| Reason {
-            number,
-            seconds_lacking,
-            damper_by_memory: damper != 0,
-            flow_by_memory: flow != 0,
-        };
-        let asked = [
-            reason(sensor.reason, sensor.seconds_lacking, 0, sensor.flow_by_memory),
-            reason(leak.reason, leak.seconds_lacking, leak.damper_by_memory, leak.flow_by_memory),
-        ];
-        let reckoned = [self.reasons.sensor, self.reasons.leak];
-        (asked != reckoned).then(|| format!("the reasons differ\n  port      {asked:?}\n  reckoned  {reckoned:?}"))
+        same_number(number, refusal).or_else(|| self.difference())
     }
 
     /// Flips each bit of each field of the port's record in turn. The field, and it alone, has to be told by its path; but the bits of the
@@ -193,14 +143,10 @@ impl Both {
 fn run(lines: u64) -> Result<String, String> {
     let mut both = Both::new()?;
     drive::each_line(lines, |line| both.take(line))?;
-    let Both { accepted: [plain, quiet], sized, second, refused, reasoned: [sensor, leak], by_memory, .. } = both;
+    let Both { accepted: [plain, quiet], sized, second, refused, .. } = both;
     let accepted = format!("accepted {plain} plain, {quiet} quiet, {sized} of them of other sizes, {second} with the second reading");
     let counts = format!("{accepted}; {refused} buildings refused, no byte written");
-    let each = |numbers: [u8; 5], ticks: [u64; 5]| [0, 1, 2, 3, 4].map(|i| format!("{} after {}", numbers[i], ticks[i])).join(", ");
-    let [sensors, leaks] = [each(NUMBERS[0], sensor), each(NUMBERS[1], leak)];
-    let [flow, damper] = by_memory;
-    let counts = format!("{counts}\nreasons: sensor {sensors}; leak {leaks}; memory decided of flow {flow}, of damper {damper}");
-    if [&[plain, quiet, sized, second, refused][..], &sensor, &leak, &by_memory].concat().contains(&0) {
+    if [plain, quiet, sized, second, refused].contains(&0) {
         return Err(format!("{counts}: too few to compare"));
     }
     both.flip_every_bit()?;
