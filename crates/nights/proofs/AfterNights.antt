@@ -52,7 +52,7 @@ came_to choices h (k ∷ ks) a =
       history = on.history;
       all_accepted = on.all_accepted;
       shown_ticks = rw (grown_accepts choices h k all)
-      (sym (append_assoc (accepted choices h) (shown_at choices h k ∷ []) (shown (steps (grown choices (k ∷ h)) ks))) ∙ on.shown_ticks);
+          (sym (append_assoc (accepted choices h) (shown_at choices h k ∷ []) (shown (steps (grown choices (k ∷ h)) ks))) ∙ on.shown_ticks);
       box = rw (grown_accepts choices h k all) on.box;
     })
     (λ reason first.

@@ -48,7 +48,6 @@ module _ {A : Type 0} where
 -- ---- the rise that the samples tell: `input` computes the condition `Holds`
 module _ (choices : Choices) (input : List Tick → Bool) (Holds : List Shown → Shown → Type 0)
     (means : (h : List Tick) (k : Tick) → T (input (k ∷ h)) ↔ Holds (accepted choices h) (shown_at choices h k)) (quiet : Bool) where
-
   -- it rose n seconds before `now`
   pub record RoseAt (n now : ℕ) (ticks : List Shown) : Type 0 where
     pub rise : Shown

@@ -167,9 +167,10 @@ module _ (choices : Choices) where
     stands_means : (T occupied × T (not (fan k)) × T high × T sensor_delay.held) ↔ (now.output.airflow_sensor_alarm ≡ pos 3)
     stands_means =
         let on = on_means choices.second_reading (holds_if_held choices (sensor_input choices.second_reading (H choices)) (SensorCondition choices.second_reading choices) (condition_means choices.second_reading) h k a) in
-        let three = alarm_is_three choices h k in
-        (λ p. three.1 (occupied_means.0 p.0, on.1 (p.1, p.2, p.3)),
-        λ e. let t = three.0 e in let o = on.0 t.1 in (occupied_means.1 t.0, o.0, o.1, o.2))
+        let three = alarm_is_three choices h k in (
+          λ p. three.1 (occupied_means.0 p.0, on.1 (p.1, p.2, p.3)),
+          λ e. let t = three.0 e in let o = on.0 t.1 in (occupied_means.1 t.0, o.0, o.1, o.2),
+        )
 
     sensor_lacking : T high → T (not (fan k)) → T (not sensor_delay.held) → LackingIs choices (sensor_input choices.second_reading (H choices)) (SensorCondition choices.second_reading choices) (condition_means choices.second_reading) h k
     sensor_lacking up off held = lacking_is choices _ _ (condition_means choices.second_reading) h k a (input_there choices.second_reading off up) held
