@@ -1,9 +1,9 @@
 /* What the dispatcher reads: runs the ticks and buildings on standard input, in the line format of the program `ticks`, and prints the time of a tick, the
-   desk code, its meaning, and for the sensor alarm and the leak alarm the reason why it does not stand: at the first accepted tick, whenever the code changes,
-   whenever one of the two begins or ceases to be held, that is, to wait out its 600 seconds, and whenever memory begins or ceases to have a say in one that
-   is held. So an alarm is seen to come before it stands, and it is seen where it does not come. Other changes of a reason have no line.
-   What the line tells of the fan already is left out: the sensor alarm's `fan on` beside a code for which the fan runs, the leak alarm's `fan off` where the
-   sensor alarm or its reason has it off.
+   desk code, its meaning, and for the sensor alarm and the leak alarm the reason why it does not stand: at the first accepted tick of a box, whenever the code
+   changes, whenever one of the two begins or ceases to be held, that is, to wait out its 600 seconds, and whenever memory begins or ceases to have a say in one
+   that is held. So an alarm is seen to come before it stands, and it is seen where it does not come. Other changes of a reason have no line.
+   What the code or the other reason says of the fan is left out: the sensor alarm's `fan on` beside the codes 12, 13 and 34, which only a running fan has, and
+   the leak alarm's `fan off` where the sensor alarm stands or its reason has the fan off.
    A refused tick or building has a line with dashes for the time, the number of the refusal and its meaning; a line that is neither has one too. */
 #define _POSIX_C_SOURCE 200809L
 #include <inttypes.h>
@@ -58,16 +58,13 @@ static const char *words(uint8_t reason) {
     }
 }
 
-/* The flow and the damper, as far as a reason tells them that is of neither. */
-static const char *flow(uint8_t reason) { return reason == AIR_BOX_ALARM_STANDS || reason == AIR_BOX_HELD ? "flow high" : "flow"; }
-static const char *damper(uint8_t reason) { return reason == AIR_BOX_FAN_OFF ? "damper" : "damper closed"; }
-
-/* What memory decided. Where that is the reason itself, as in `flow not high by memory`, it is not said twice. */
+/* What memory decided, of the dead band that is the reason, and of an alarm that is held or stands. */
 static bool put_memory(const Why *why) {
-    bool of_flow = why->reason == AIR_BOX_FLOW_NOT_HIGH, of_damper = why->reason == AIR_BOX_DAMPER_NOT_CLOSED;
-    if (((of_flow && why->flow_by_memory) || (of_damper && why->damper_by_memory)) && !put(" by memory")) return false;
-    if (why->damper_by_memory && !of_damper && !put(", %s by memory", damper(why->reason))) return false;
-    return !why->flow_by_memory || of_flow || put(", %s by memory", flow(why->reason));
+    bool of_damper = why->reason == AIR_BOX_DAMPER_NOT_CLOSED, of_flow = why->reason == AIR_BOX_FLOW_NOT_HIGH;
+    if ((of_damper && why->damper_by_memory) || (of_flow && why->flow_by_memory)) return put(" by memory");
+    if (why->reason != AIR_BOX_HELD && why->reason != AIR_BOX_ALARM_STANDS) return true;
+    if (why->damper_by_memory && !put(", damper closed by memory")) return false;
+    return !why->flow_by_memory || put(", flow high by memory");
 }
 
 static bool put_why(const Why *why) {
@@ -117,13 +114,14 @@ static bool put_refusal(uint8_t number) {
     return put("--:--:--  refused %d: %s\n", number, refusal(number));
 }
 
-/* Runs one tick, and writes its line if the reader has to know: of a refusal always, else where it is not as the last line shows it. */
+/* Runs one tick, and writes its line if the reader has to know: of a refusal always, else at a box's first and where it is not as the last line shows it. */
 static bool put_tick(AirBox *box, const AirBoxTick *tick, Shown *last) {
     AirBoxOutput o = {0};
+    bool first = air_box_sensor_reason(box).reason == AIR_BOX_NO_TICK;
     uint8_t number = air_box_tick(box, tick, &o);
     if (number != AIR_BOX_ACCEPTED) return put_refusal(number);
     Shown shown = shown_after(box, &o);
-    if (is_same(&shown, last)) return true;
+    if (!first && is_same(&shown, last)) return true;
     *last = shown;
     return put_shown(tick->t, &shown);
 }

@@ -78,18 +78,18 @@
        sensor:  AIR_BOX_NO_TICK, AIR_BOX_NOT_OCCUPIED, AIR_BOX_FAN_ON, AIR_BOX_FLOW_NOT_HIGH, AIR_BOX_HELD, AIR_BOX_ALARM_STANDS
        leak:    AIR_BOX_NO_TICK, AIR_BOX_FAN_OFF, AIR_BOX_DAMPER_NOT_CLOSED, AIR_BOX_FLOW_NOT_HIGH, AIR_BOX_HELD, AIR_BOX_ALARM_STANDS
 
-       AirBoxSensorReason why = air_box_sensor_reason(&box);  // after an accepted tick
+       AirBoxSensorReason why = air_box_sensor_reason(&box);
        if (why.reason == AIR_BOX_HELD) report_held(why.seconds_lacking);
 
-   It is asked after an accepted tick. A refused one changes none of it: until the next accepted tick the reason is that of the last. The leak alarm asks for
-   no mode. AIR_BOX_HELD: all is there but the 600 seconds. Of them `seconds_lacking`, from 1 to 600, are lacking at that tick: if nothing changes the alarm
-   stands from the first tick on that is so many seconds later. With any other reason it is 0.
+   It may be asked at any time, and speaks of the last accepted tick: a refused one changes none of it. The leak alarm asks for no mode. AIR_BOX_HELD: all is
+   there but the 600 seconds. Of them `seconds_lacking`, from 1 to 600, are lacking at that tick: if nothing changes the alarm stands from the first tick on
+   that is so many seconds later or more. With any other reason it is 0.
    The seconds run from the accepted tick at which flow high with the fan off last began, in whatever mode; with the second reading from the one at which the
    fan last stopped, whenever the flow became high; for the leak from the one at which fan on, damper closed and flow high last came together. With a quiet
    start the first tick counts as such a beginning. With a plain start what is there from the first tick on is never held.
    Beside the reason, whichever it is, stands whether memory decided. That flow is high, and that the damper is closed, are comparisons with a dead band in
-   which the answer before stays: a flow above a tenth of the maximum less 0.01 and not above the tenth, a damper command from 0.01 to below 0.015. A flag says
-   that with the other memory that comparison would have given the other answer. Before the first accepted tick the flags are false.
+   which the answer before stays: a flow above 0.01 less than a tenth of the maximum and not above that tenth, a damper command from 0.01 to below 0.015.
+   A flag says that with the other memory that comparison would have given the other answer. Before the first accepted tick the flags are false.
 
    What the archive needs and takes.
    - x86-64 with the System V ABI, as on Linux and the BSDs. No other processor, and not the ABI of Windows. SSE2 is enough.
@@ -277,7 +277,8 @@ AIR_BOX_ASSERT(offsetof(AirBoxOutput, leaking_damper_alarm) == 72);
 #define AIR_BOX_DESK_AIRFLOW_SENSOR 23      /* airflow_sensor_alarm is 3 */
 #define AIR_BOX_DESK_NO_ALARM 0             /* else */
 
-/* ---- Why there is no alarm, after the last accepted tick. None of the numbers is that of a refusal or a desk code, 0 apart. */
+/* ---- Why there is no alarm, after the last accepted tick. None of the numbers is that of a refusal or a desk code, 0 apart,
+   which there says that nothing is wrong, and here that the alarm stands. */
 #define AIR_BOX_ALARM_STANDS 0              /* the alarm stands: in the outputs of that tick it is AIR_BOX_AIRFLOW_SENSOR, or AIR_BOX_LEAKING_DAMPER */
 #define AIR_BOX_NO_TICK 60                  /* no tick yet: none was accepted */
 #define AIR_BOX_NOT_OCCUPIED 61             /* mode not 1; of the sensor alarm alone */

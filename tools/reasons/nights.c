@@ -54,7 +54,7 @@ static const char *const ALARM_NAMES[ALARMS] = {"sensor alarm, first reading", "
 
 typedef struct { unsigned number, seconds; bool by_memory[BANDS]; } Reason;
 
-/* Wrong reckonings: 600 less the time since the rise of the condition without the fan, or with the mode; minutes that are ticks; the seconds since the last
+/* Wrong reckonings: 600 less the time since the rise of the condition without the fan, or with the mode; ticks counted as if each were a minute; the seconds since the last
    tick; the flag of the other dead band; a refused tick that is a fall, or that clears the reason; the reason of the tick before; a first tick that counts as
    a rise in the plain start and not in the quiet one; 0.15 for 0.1 * 1.5. */
 typedef enum {

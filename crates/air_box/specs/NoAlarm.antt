@@ -1,6 +1,6 @@
 -- Document 02, N3: why there is no sensor alarm, and why there is no leak alarm, of a box and its last accepted tick: one reason, the first that is true.
 -- What is asked is what the box keeps: of the last accepted tick (`last_tick` of AirBox.antt), and the memories of the alarms stage after it.
--- That the reasons are true of the history of the box is the claim NoAlarm.antt of nights.
+-- That the reasons are true of the history of the box is the claim WhyNoAlarm.antt of nights.
 use Rattle.std.specs.Prelude.{ℕ, false, not, Option, Some, None, codes, List, if◌then◌else◌}
 use Rattle.std.specs.Float.Ieee.{to_unsigned}
 use Rattle.f64_helpers.specs.F64.{◌⊖◌, decimal}
@@ -15,7 +15,7 @@ use Rattle.air_box.specs.declared.LeakReason.{LeakReason}
 
 -- ---- a reason's number, seconds and words
 
--- None of the numbers is that of a refusal or a desk code, 0 apart, by which nothing is wrong there either.
+-- None of the numbers is that of a refusal or a desk code, 0 apart: there nothing is wrong, here the alarm stands.
 abbrev pub reason_number : NoAlarmReason → ℕ
 reason_number AlarmStands = 0
 reason_number NoTick = 60

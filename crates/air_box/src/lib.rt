@@ -154,7 +154,7 @@ impl fmt::Display for BuildRefusal {
 
 impl Error for BuildRefusal {}
 
-// The number of the reason. None is that of a refusal or a desk code.
+// The number of the reason. None is that of a refusal or a desk code, 0 apart: there nothing is wrong, here the alarm stands.
 impl From<NoAlarmReason> for u8 {
     ghost from_gives = { λ reason number. number ≡ NoAlarm.reason_number reason };
 

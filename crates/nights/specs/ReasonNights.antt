@@ -111,7 +111,7 @@ pub record ReasonNights : Type 0 where
   pub leak_in_mode_2 :
       leak_told true (with_fan_off 0 high ∷ in_mode_2 (with_fan_on 60 high) ∷ in_mode_2 (with_fan_on 180 between) ∷ [])
       ≡ leak FanOff false false ∷ leak (Held 600) false false ∷ leak (Held 480) false true ∷ []
-  -- With the damper's override gone the command is above its dead band.
+  -- A damper that its override opens is not closed. At the next tick, where it is closed, the flow is what is missing.
   pub damper_open :
       leak_told true (at_time zero (pos 1) (bench_tick high (pos 2) (pos 2) true) ∷ with_fan_on 60 low ∷ [])
       ≡ leak DamperNotClosed false false ∷ leak FlowNotHigh false false ∷ []

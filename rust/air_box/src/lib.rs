@@ -120,7 +120,8 @@
 //!
 //! A box tells why its airflow sensor alarm does not stand, and why its leaking damper alarm does not: the first of these reasons that is true of its last
 //! accepted tick. For the sensor alarm: no tick yet, mode not 1, fan on, flow not high, held. For the leak alarm, which asks for no mode: no tick yet, fan
-//! off, damper not closed, flow not high, held. Else the alarm stands. It is asked after an accepted tick; a refused one changes none of it.
+//! off, damper not closed, flow not high, held. Else the alarm stands. It may be asked at any time, and speaks
+//! of the last accepted tick: a refused one changes none of it.
 //!
 //! ```
 //! use air_box::{AirBox, NoAlarmReason};
@@ -145,9 +146,10 @@
 //! #     },
 //! # };
 //!
+//! // `minute` makes a tick of that minute in mode 1, with the fan off and with that flow
 //! let mut air_box = AirBox::quiet();
 //! assert_eq!(air_box.sensor_reason().reason, NoAlarmReason::NoTick);
-//! air_box.tick(&minute(0, 0.3)).expect("accepted"); // the fan off, and a flow of 0.3
+//! air_box.tick(&minute(0, 0.3)).expect("accepted");
 //! air_box.tick(&minute(1, 0.145)).expect("accepted");
 //! let why = air_box.sensor_reason();
 //! assert_eq!(why.reason, NoAlarmReason::Held { seconds_lacking: 540 });
@@ -327,7 +329,8 @@ impl fmt::Display for Refusal {
 
 impl Error for Refusal {}
 
-/// Why an alarm does not stand, or that it stands. None of the numbers is that of a refusal or a desk code, 0 apart.
+/// Why an alarm does not stand, or that it stands. None of the numbers is that of a refusal or a desk code, 0 apart, which there says that nothing is wrong,
+/// and here that the alarm stands.
 #[derive(Clone, Copy, Debug, PartialEq, Eq, Hash)]
 pub enum NoAlarmReason {
     /// 0. In the outputs of the last accepted tick the alarm is not 0.
@@ -344,11 +347,13 @@ pub enum NoAlarmReason {
     DamperNotClosed,
     /// 65.
     FlowNotHigh,
-    /// 66. All is there, but for less than 600 seconds; so many of them, from 1 to 600, are lacking at the last accepted tick.
+    /// 66. All is there, but for less than 600 seconds; so many of them, from 1 to 600, are lacking at the last accepted tick. It is displayed as
+    /// `held`, without them.
     Held { seconds_lacking: u16 },
 }
 
 impl NoAlarmReason {
+    /// The number of the reason, as the header has it.
     pub const fn number(self) -> u8 {
         match self {
             NoAlarmReason::AlarmStands => 0,

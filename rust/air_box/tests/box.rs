@@ -493,7 +493,7 @@ fn each_flag_is_of_its_own_dead_band() {
     assert_eq!(flags(0.3, 0.139), (not_high, false, false));
     assert_eq!(flags(0.0, 0.145), (not_high, false, true));
     assert_eq!(flags(0.0, 0.3), (held(600), false, false));
-    // A command above 0.01 and below 0.015 is closed where it was: the damper's loop opens slowly from 0.
+    // A command from 0.01 to below 0.015 is closed where it was: the damper's loop opens slowly from 0.
     let mut air_box = AirBox::quiet();
     let mut by_memory = 0;
     for second in 0..1200 {
