@@ -1,6 +1,7 @@
 -- What a box comes to by any night: the history of its accepted ticks, these with their own outputs, and the box that has accepted them. Assumes nothing.
 use mathlib.Core.Path.{◌≡◌, refl, sym, ap, ◌∙◌}
 use mathlib.Core.List.{List, [], ◌∷◌, ◌++◌, append_assoc, append-nil}
+use Rattle.std.proofs.lemmas.List.{map_push}
 use Rattle.box_choices.specs.declared.Choices.{Choices}
 use Rattle.air_box.specs.AirBox.{accepted_tick, tick}
 use Rattle.air_box.specs.Demand2.{controller_step_of}
@@ -25,14 +26,10 @@ with_outputs choices (k ∷ h) = shown_at choices h k ∷ with_outputs choices h
 abbrev pub accepted : Choices → List Tick → List Shown
 accepted choices h = in_order (with_outputs choices h)
 
-ticks_appended : (a b : List Shown) → ticks (a ++ b) ≡ ticks a ++ ticks b
-ticks_appended [] b = refl
-ticks_appended (s ∷ a) b = ap (λ (l : List Tick). s.ticked ∷ l) (ticks_appended a b)
-
 pub ticks_in_order : (choices : Choices) (h : List Tick) → ticks (accepted choices h) ≡ in_order h
 ticks_in_order choices [] = refl
 ticks_in_order choices (k ∷ h) =
-    ticks_appended (accepted choices h) (shown_at choices h k ∷ []) ∙ ap (λ (l : List Tick). l ++ (k ∷ [])) (ticks_in_order choices h)
+    map_push (λ (s : Shown). s.ticked) (accepted choices h) (shown_at choices h k) ∙ ap (λ (l : List Tick). l ++ (k ∷ [])) (ticks_in_order choices h)
 
 -- the night `ks`, after the history h
 pub record CameTo (choices : Choices) (h ks : List Tick) : Type 0 where

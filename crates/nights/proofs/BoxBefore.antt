@@ -1,5 +1,5 @@
 -- What a box keeps of its last tick reaches nothing else: the box without it is the box of before, at every tick and along every night. Assumes nothing.
-use mathlib.Core.Path.{◌≡◌, refl, ap, ◌∙◌}
+use mathlib.Core.Path.{◌≡◌, refl, sym, ap}
 use mathlib.Core.Bool.{Bool, true, false}
 use mathlib.Core.List.{List, [], ◌∷◌, map}
 use Rattle.std.specs.Prelude.{Result, Ok, Err, ⊤, if◌then◌else◌}
@@ -11,13 +11,13 @@ use Rattle.air_box.specs.declared.BuildRefusal.TheVariants.{DesignFlowOutOfRange
 use Rattle.air_box.specs.declared.AirBox.{AirBox}
 use Rattle.air_box.specs.declared.AirBoxStep.{AirBoxStep}
 use Rattle.nights.specs.Nights.{steps}
-use Rattle.nights.specs.BoxBefore.{BoxBefore, BoxBeforeStep, tick_before, decided_before, build_before, given_before, unticked_before, before, built_then, NothingElseMoved}
+use Rattle.nights.specs.BoxBefore.{BoxBeforeStep, tick_before, decided_before, build_before, given_before, unticked_before, before, built_then, NothingElseMoved}
 
-step_before : AirBoxStep → BoxBeforeStep
+abbrev step_before : AirBoxStep → BoxBeforeStep
 step_before s = record { state = before s.state; answer = s.answer }
 
 decided_is : (v : Result ⊤ Refusal) (box : AirBox) (k : Tick) → step_before (decided v box k) ≡ decided_before v (before box) k
-unfolding accepted_tick step_before
+unfolding accepted_tick
 decided_is (Ok _) box k = refl
 decided_is (Err reason) box k = refl
 
@@ -26,18 +26,16 @@ unfolding tick
 tick_is box k = decided_is (questions box.last_time k) box k
 
 answer_is : (box : AirBox) (k : Tick) → (tick box k).answer ≡ (tick_before (before box) k).answer
-unfolding step_before
 answer_is box k = ap (λ (s : BoxBeforeStep). s.answer) (tick_is box k)
 
 next_is : (box : AirBox) (k : Tick) → before (tick box k).state ≡ (tick_before (before box) k).state
-unfolding step_before
 next_is box k = ap (λ (s : BoxBeforeStep). s.state) (tick_is box k)
 
 given_is : (box : AirBox) (ks : List Tick) → map (λ s. s.given) (steps box ks) ≡ given_before (before box) ks
 given_is box [] = refl
 given_is box (k ∷ ks) =
-    rw (answer_is box k)
-    (ap (λ (l : List _). outputs_or_number (tick_before (before box) k).answer ∷ l) (given_is (tick box k).state ks ∙ ap (λ (b : BoxBefore). given_before b ks) (next_is box k)))
+    rw (answer_is box k, sym (next_is box k))
+    (ap (λ (l : List _). outputs_or_number (tick_before (before box) k).answer ∷ l) (given_is (tick box k).state ks))
 
 built_is : (choices : Choices) → built_then (build choices) ≡ build_before choices
 unfolding build

@@ -1,7 +1,7 @@
--- Three questions asked in order, and then whether the alarm stands: which reason is given. For any three reasons whose numbers rise in that order. Assumes nothing.
-use mathlib.Core.Path.{◌≡◌, refl, ap}
+-- Three questions asked in order, and then whether the alarm stands: which reason is given, and what it says. For any three reasons whose numbers rise in that order. Assumes nothing.
+use mathlib.Core.Path.{◌≡◌, refl, ap, subst}
 use mathlib.Core.Logic.{◌↔◌}
-use Prim.Native.Nat.{ℕ, ◌<◌}
+use Prim.Native.Nat.{ℕ, ◌<◌, ◌≤◌}
 use native.Mathlib.Omega.{arith}
 use mathlib.Core.Bool.{Bool, true, false, not}
 use lib.Dec.{T}
@@ -19,6 +19,15 @@ pub record Asked : Type 0 where
   pub rises : reason_number first < reason_number second
   pub rises_on : reason_number second < reason_number third
   pub below_66 : reason_number third < 66
+
+-- What the reason r says, where the alarm needs A, B and C, in this order, and then stands or lacks some seconds.
+pub record Says (asked : Asked) (A B C Alarm : Type 0) (Lacks : ℕ → Type 0) (r : NoAlarmReason) : Type 0 where
+  pub first : (r ≡ asked.first) ↔ (¬ A)
+  pub second : (r ≡ asked.second) ↔ (A × ¬ B)
+  pub third : (r ≡ asked.third) ↔ (A × B × ¬ C)
+  pub held : (n : ℕ) → (r ≡ Held n) ↔ (A × B × C × ¬ Alarm × Lacks n)
+  pub from_1_to_600 : (n : ℕ) → r ≡ Held n → (1 ≤ n) × (n ≤ 600)
+  pub stands : (r ≡ AlarmStands) ↔ Alarm
 
 module _ (asked : Asked) (lacking : ℕ) where
   abbrev first : NoAlarmReason
@@ -42,53 +51,64 @@ module _ (asked : Asked) (lacking : ℕ) where
   abbrev d : reason_number third < 66
   d = asked.below_66
 
-  -- p, q and r say whether these are the reason
+  -- p, q and r say whether the alarm has what it needs
   abbrev pub first_true : Bool → Bool → Bool → Bool → NoAlarmReason
-  first_true p q r held = if p then first else (if q then second else (if r then third else (if held then AlarmStands else Held lacking)))
+  first_true p q r held = if not p then first else (if not q then second else (if not r then third else (if held then AlarmStands else Held lacking)))
 
-  unlike : (x y : NoAlarmReason) → x ≡ y → reason_number x ≡ reason_number y
-  unlike x y e = ap reason_number e
-
-  pub is_first : (p q r held : Bool) → (first_true p q r held ≡ first) ↔ T p
-  is_first true q r held = (λ e. tt, λ t. refl)
-  is_first false true r held = (λ e. absurd (omega (arith, unlike second first e, b)), λ t. absurd t)
-  is_first false false true held = (λ e. absurd (omega (arith, unlike third first e, b, c)), λ t. absurd t)
-  is_first false false false true = (λ e. absurd (omega (arith, unlike AlarmStands first e, a)), λ t. absurd t)
-  is_first false false false false = (λ e. absurd (omega (arith, unlike (Held lacking) first e, b, c, d)), λ t. absurd t)
-
-  pub is_second : (p q r held : Bool) → (first_true p q r held ≡ second) ↔ (T (not p) × T q)
-  is_second true q r held = (λ e. absurd (omega (arith, unlike first second e, b)), λ t. absurd t.0)
-  is_second false true r held = (λ e. (tt, tt), λ t. refl)
-  is_second false false true held = (λ e. absurd (omega (arith, unlike third second e, c)), λ t. absurd t.1)
-  is_second false false false true = (λ e. absurd (omega (arith, unlike AlarmStands second e, a, b)), λ t. absurd t.1)
-  is_second false false false false = (λ e. absurd (omega (arith, unlike (Held lacking) second e, c, d)), λ t. absurd t.1)
-
-  pub is_third : (p q r held : Bool) → (first_true p q r held ≡ third) ↔ (T (not p) × T (not q) × T r)
-  is_third true q r held = (λ e. absurd (omega (arith, unlike first third e, b, c)), λ t. absurd t.0)
-  is_third false true r held = (λ e. absurd (omega (arith, unlike second third e, c)), λ t. absurd t.1)
-  is_third false false true held = (λ e. (tt, tt, tt), λ t. refl)
-  is_third false false false true = (λ e. absurd (omega (arith, unlike AlarmStands third e, a, b, c)), λ t. absurd t.2)
-  is_third false false false false = (λ e. absurd (omega (arith, unlike (Held lacking) third e, d)), λ t. absurd t.2)
-
-  pub is_held : (n : ℕ) (p q r held : Bool) → (first_true p q r held ≡ Held n) ↔ (T (not p) × T (not q) × T (not r) × T (not held) × (lacking ≡ n))
-  is_held n true q r held = (λ e. absurd (omega (arith, unlike first (Held n) e, b, c, d)), λ t. absurd t.0)
-  is_held n false true r held = (λ e. absurd (omega (arith, unlike second (Held n) e, c, d)), λ t. absurd t.1)
-  is_held n false false true held = (λ e. absurd (omega (arith, unlike third (Held n) e, d)), λ t. absurd t.2)
-  is_held n false false false true = (λ e. absurd (omega (arith, unlike AlarmStands (Held n) e)), λ t. absurd t.3)
-  is_held n false false false false = (λ e. (tt, tt, tt, tt, ap reason_seconds e), λ t. ap Held t.4)
-
-  pub is_standing : (p q r held : Bool) → (first_true p q r held ≡ AlarmStands) ↔ (T (not p) × T (not q) × T (not r) × T held)
-  is_standing true q r held = (λ e. absurd (omega (arith, unlike first AlarmStands e, a)), λ t. absurd t.0)
-  is_standing false true r held = (λ e. absurd (omega (arith, unlike second AlarmStands e, a, b)), λ t. absurd t.1)
-  is_standing false false true held = (λ e. absurd (omega (arith, unlike third AlarmStands e, a, b, c)), λ t. absurd t.2)
-  is_standing false false false true = (λ e. (tt, tt, tt, tt), λ t. refl)
-  is_standing false false false false = (λ e. absurd (omega (arith, unlike (Held lacking) AlarmStands e)), λ t. absurd t.3)
+  module _ (A B C Alarm : Type 0) (Lacks : ℕ → Type 0) (one : (m n : ℕ) → Lacks m → Lacks n → m ≡ n) where
+    pub says : (p q r held : Bool) → T p ↔ A → T q ↔ B → T r ↔ C → (T p × T q × T r × T held) ↔ Alarm
+        → (T p → T q → T r → T (not held) → Lacks lacking × (1 ≤ lacking) × (lacking ≤ 600)) → Says asked A B C Alarm Lacks (first_true p q r held)
+    says false q r held f g h s l =
+        record {
+          first = (λ e. f.1, λ n. refl);
+          second = (λ e. absurd (omega (arith, ap reason_number e, a, b, c, d)), λ t. absurd (f.1 t.0));
+          third = (λ e. absurd (omega (arith, ap reason_number e, a, b, c, d)), λ t. absurd (f.1 t.0));
+          held = λ n. (λ e. absurd (omega (arith, ap reason_number e, a, b, c, d)), λ t. absurd (f.1 t.0));
+          from_1_to_600 = λ n e. absurd (omega (arith, ap reason_number e, a, b, c, d));
+          stands = (λ e. absurd (omega (arith, ap reason_number e, a, b, c, d)), λ t. absurd (s.1 t).0);
+        }
+    says true false r held f g h s l =
+        record {
+          first = (λ e. absurd (omega (arith, ap reason_number e, a, b, c, d)), λ n. absurd (n (f.0 tt)));
+          second = (λ e. (f.0 tt, g.1), λ t. refl);
+          third = (λ e. absurd (omega (arith, ap reason_number e, a, b, c, d)), λ t. absurd (g.1 t.1));
+          held = λ n. (λ e. absurd (omega (arith, ap reason_number e, a, b, c, d)), λ t. absurd (g.1 t.1));
+          from_1_to_600 = λ n e. absurd (omega (arith, ap reason_number e, a, b, c, d));
+          stands = (λ e. absurd (omega (arith, ap reason_number e, a, b, c, d)), λ t. absurd (s.1 t).1);
+        }
+    says true true false held f g h s l =
+        record {
+          first = (λ e. absurd (omega (arith, ap reason_number e, a, b, c, d)), λ n. absurd (n (f.0 tt)));
+          second = (λ e. absurd (omega (arith, ap reason_number e, a, b, c, d)), λ t. absurd (t.1 (g.0 tt)));
+          third = (λ e. (f.0 tt, g.0 tt, h.1), λ t. refl);
+          held = λ n. (λ e. absurd (omega (arith, ap reason_number e, a, b, c, d)), λ t. absurd (h.1 t.2));
+          from_1_to_600 = λ n e. absurd (omega (arith, ap reason_number e, a, b, c, d));
+          stands = (λ e. absurd (omega (arith, ap reason_number e, a, b, c, d)), λ t. absurd (s.1 t).2);
+        }
+    says true true true true f g h s l =
+        record {
+          first = (λ e. absurd (omega (arith, ap reason_number e, a, b, c, d)), λ n. absurd (n (f.0 tt)));
+          second = (λ e. absurd (omega (arith, ap reason_number e, a, b, c, d)), λ t. absurd (t.1 (g.0 tt)));
+          third = (λ e. absurd (omega (arith, ap reason_number e, a, b, c, d)), λ t. absurd (t.2 (h.0 tt)));
+          held = λ n. (λ e. absurd (omega (arith, ap reason_number e, a, b, c, d)), λ t. absurd (t.3 (s.0 (tt, tt, tt, tt))));
+          from_1_to_600 = λ n e. absurd (omega (arith, ap reason_number e, a, b, c, d));
+          stands = (λ e. s.0 (tt, tt, tt, tt), λ t. refl);
+        }
+    says true true true false f g h s l =
+        record {
+          first = (λ e. absurd (omega (arith, ap reason_number e, a, b, c, d)), λ n. absurd (n (f.0 tt)));
+          second = (λ e. absurd (omega (arith, ap reason_number e, a, b, c, d)), λ t. absurd (t.1 (g.0 tt)));
+          third = (λ e. absurd (omega (arith, ap reason_number e, a, b, c, d)), λ t. absurd (t.2 (h.0 tt)));
+          held = λ n. (λ e. (f.0 tt, g.0 tt, h.0 tt, λ t. (s.1 t).3, subst Lacks (ap reason_seconds e) (l tt tt tt tt).0), λ t. ap Held (one lacking n (l tt tt tt tt).0 t.4));
+          from_1_to_600 = λ n e. (omega (arith, ap reason_seconds e, (l tt tt tt tt).1), omega (arith, ap reason_seconds e, (l tt tt tt tt).2));
+          stands = (λ e. absurd (omega (arith, ap reason_number e, a, b, c, d)), λ t. absurd (s.1 t).3);
+        }
 
   -- it is none but these
   pub is_none_other : (x : NoAlarmReason) → (x ≡ first → ⊥) → (x ≡ second → ⊥) → (x ≡ third → ⊥) → (x ≡ AlarmStands → ⊥) → (x ≡ Held lacking → ⊥)
       → (p q r held : Bool) → first_true p q r held ≡ x → ⊥
-  is_none_other x f g h i j true q r held e = f (cc)
-  is_none_other x f g h i j false true r held e = g (cc)
-  is_none_other x f g h i j false false true held e = h (cc)
-  is_none_other x f g h i j false false false true e = i (cc)
-  is_none_other x f g h i j false false false false e = j (cc)
+  is_none_other x f g h i j false q r held e = f (cc)
+  is_none_other x f g h i j true false r held e = g (cc)
+  is_none_other x f g h i j true true false held e = h (cc)
+  is_none_other x f g h i j true true true true e = i (cc)
+  is_none_other x f g h i j true true true false e = j (cc)

@@ -1,12 +1,13 @@
 -- Since when a condition over the accepted ticks has held, for any condition: a delay's timer counts from its last rise, and a condition has one last rise. Assumes nothing.
 use mathlib.Core.Path.{◌≡◌, refl, sym, ap, ◌∙◌, subst}
 use mathlib.Core.Logic.{◌↔◌, inl, inr}
-use mathlib.Core.List.{List, [], ◌∷◌, ◌++◌, append_assoc, append-nil}
+use mathlib.Core.List.{List, [], ◌∷◌, ◌++◌, append_assoc, append-nil, head-eq_of_cons-eq, tail-eq_of_cons-eq, cons-ne-nil, append-ne-nil_of_right_ne-nil}
 use Prim.Native.Nat.{ℕ, ◌+◌, ◌-◌, ◌*◌, ◌/◌, ◌<◌, ◌≤◌}
 use native.Mathlib.Omega.{arith}
 use mathlib.Core.Bool.{Bool, true, false, not}
 use lib.Dec.{T, T_not}
 use lib.Ieee.{Float, nan, inf, fin, binary64, up, down, to_unsigned}
+use Rattle.std.proofs.lemmas.List.{same_from_push}
 use Rattle.f64_helpers.specs.F64.{◌⊖◌, decimal}
 use Rattle.f64_helpers.specs.Seconds.{Whole, seconds}
 use Rattle.f64_helpers.proofs.WholeSeconds.{seconds_of, sub_whole}
@@ -23,27 +24,6 @@ use Rattle.nights.proofs.AcceptedTicks.{AllAccepted}
 use Rattle.nights.proofs.Conditions.{samples, samples_timed, held_since_law}
 use Rattle.nights.proofs.SensorAlarm.{delay_reached}
 use Rattle.nights.proofs.AfterNights.{shown_at, accepted}
-
--- ---- lists
-module _ {A : Type 0} where
-  same_head : (x y : A) (xs ys : List A) → x ∷ xs ≡ y ∷ ys → x ≡ y
-  same_head x y xs ys e = cc
-
-  same_tail : (x y : A) (xs ys : List A) → x ∷ xs ≡ y ∷ ys → xs ≡ ys
-  same_tail x y xs ys e = cc
-
-  pub not_empty : (xs : List A) (x : A) (ys : List A) → xs ++ (x ∷ ys) ≡ [] → ⊥
-  not_empty [] x ys e = cc
-  not_empty (a ∷ xs) x ys e = cc
-
-  -- lists that end alike
-  pub same_end : (xs ys : List A) (x y : A) → xs ++ (x ∷ []) ≡ ys ++ (y ∷ []) → (xs ≡ ys) × (x ≡ y)
-  same_end [] [] x y e = (refl, same_head x y [] [] e)
-  same_end [] (b ∷ ys) x y e = absurd (not_empty ys y [] (sym (same_tail x b [] (ys ++ (y ∷ [])) e)))
-  same_end (a ∷ xs) [] x y e = absurd (not_empty xs x [] (same_tail a y (xs ++ (x ∷ [])) [] e))
-  same_end (a ∷ xs) (b ∷ ys) x y e =
-      let rest = same_end xs ys x y (same_tail a b (xs ++ (x ∷ [])) (ys ++ (y ∷ [])) e) in
-      (cc (same_head a b (xs ++ (x ∷ [])) (ys ++ (y ∷ [])) e, rest.0), rest.1)
 
 -- ---- the rise that the samples tell: `input` computes the condition `Holds`
 module _ (choices : Choices) (input : List Tick → Bool) (Holds : List Shown → Shown → Type 0)
@@ -78,29 +58,29 @@ module _ (Holds : List Shown → Shown → Type 0) (quiet : Bool) where
   -- it has held along x, xs and what follows, and `last` is the last of these two
   held_at_last : (before : List Shown) (x : Shown) (xs rest ends : List Shown) (last : Shown)
       → HoldsAlong Holds before (x ∷ (xs ++ rest)) → before ++ (x ∷ xs) ≡ ends ++ (last ∷ []) → Holds ends last
-  held_at_last before x [] rest ends last a e = let same = same_end before ends x last e in subst (λ (l : List Shown). Holds l last) same.0 (subst (Holds before) same.1 a.0)
+  held_at_last before x [] rest ends last a e = let same = same_from_push before ends x last e in subst (λ (l : List Shown). Holds l last) same.0 (subst (Holds before) same.1 a.0)
   held_at_last before x (y ∷ xs) rest ends last a e = held_at_last (before ++ (x ∷ [])) y xs rest ends last a.1 (append_assoc before (x ∷ []) (y ∷ xs) ∙ e)
 
   -- so it did not rise later, where it has held from x on
   no_later : (before : List Shown) (x : Shown) (xs rest : List Shown) → HoldsAlong Holds before (x ∷ (xs ++ rest)) → Rose Holds quiet (before ++ (x ∷ xs)) → ⊥
   no_later before x xs rest a (inl f) = f.is_false (held_at_last before x xs rest f.before f.last a f.parts)
-  no_later before x xs rest a (inr e) = not_empty before x xs e.0
+  no_later before x xs rest a (inr e) = append-ne-nil_of_right_ne-nil before (cons-ne-nil x xs) e.0
 
   module _ (r s : Shown) (after_r after_s : List Shown) where
     -- `before` stands before both
     same_rise : (before a b : List Shown) → a ++ (r ∷ after_r) ≡ b ++ (s ∷ after_s)
         → HoldsAlong Holds (before ++ a) (r ∷ after_r) → Rose Holds quiet (before ++ a)
         → HoldsAlong Holds (before ++ b) (s ∷ after_s) → Rose Holds quiet (before ++ b) → r ≡ s
-    same_rise before [] [] e h f i g = same_head r s after_r after_s e
+    same_rise before [] [] e h f i g = head-eq_of_cons-eq e
     same_rise before [] (y ∷ b) e h f i g =
         absurd (no_later before y b (s ∷ after_s) (subst (HoldsAlong Holds before) e (subst (λ (l : List Shown). HoldsAlong Holds l (r ∷ after_r)) (append-nil before) h)) g)
     same_rise before (x ∷ a) [] e h f i g =
         absurd (no_later before x a (r ∷ after_r) (subst (HoldsAlong Holds before) (sym e) (subst (λ (l : List Shown). HoldsAlong Holds l (s ∷ after_s)) (append-nil before) i)) f)
     same_rise before (x ∷ a) (y ∷ b) e h f i g =
-        let head = same_head x y (a ++ (r ∷ after_r)) (b ++ (s ∷ after_s)) e in
+        let head = head-eq_of_cons-eq e in
         let one : before ++ (x ∷ a) ≡ (before ++ (x ∷ [])) ++ a = sym (append_assoc before (x ∷ []) a) in
         let other : before ++ (y ∷ b) ≡ (before ++ (x ∷ [])) ++ b = rw head (sym (append_assoc before (y ∷ []) b)) in
-        same_rise (before ++ (x ∷ [])) a b (same_tail x y (a ++ (r ∷ after_r)) (b ++ (s ∷ after_s)) e)
+        same_rise (before ++ (x ∷ [])) a b (tail-eq_of_cons-eq e)
         (subst (λ (l : List Shown). HoldsAlong Holds l (r ∷ after_r)) one h) (subst (Rose Holds quiet) one f)
         (subst (λ (l : List Shown). HoldsAlong Holds l (s ∷ after_s)) other i) (subst (Rose Holds quiet) other g)
 
@@ -126,23 +106,15 @@ alarm_delay choices input h = true_delay_after (decimal 600 1) choices.quiet (sa
 
 module _ (choices : Choices) (input : List Tick → Bool) (Holds : List Shown → Shown → Type 0)
     (means : (h : List Tick) (k : Tick) → T (input (k ∷ h)) ↔ Holds (accepted choices h) (shown_at choices h k)) where
-  -- it is from 1 to 600, and 600 less the seconds since the last rise
-  pub record LackingIs (h : List Tick) (k : Tick) : Type 0 where
-    pub at_least_1 : 1 ≤ seconds_lacking (alarm_delay choices input (k ∷ h))
-    pub at_most_600 : seconds_lacking (alarm_delay choices input (k ∷ h)) ≤ 600
-    pub lacks : Lacks Holds choices.quiet (accepted choices h) (shown_at choices h k) (seconds_lacking (alarm_delay choices input (k ∷ h)))
-
-  pub lacking_is : (h : List Tick) (k : Tick) → AllAccepted (k ∷ h) → T (input (k ∷ h)) → T (not (alarm_delay choices input (k ∷ h)).held) → LackingIs h k
+  -- it is 600 less the seconds since the last rise, and from 1 to 600
+  pub lacking_is : (h : List Tick) (k : Tick) → AllAccepted (k ∷ h) → T (input (k ∷ h)) → T (not (alarm_delay choices input (k ∷ h)).held)
+      → let lacking = seconds_lacking (alarm_delay choices input (k ∷ h)) in Lacks Holds choices.quiet (accepted choices h) (shown_at choices h k) lacking × (1 ≤ lacking) × (lacking ≤ 600)
   lacking_is h k a u off =
       let counted = timer_law (decimal 600 1) 600 delay_reached choices.quiet (record { time = k.t; input = input (k ∷ h) }) (samples input h) (samples_timed input (k ∷ h) a) u off in
       let n = counted.0 in
       let rose = rose_at choices input Holds means choices.quiet h k n (seconds k.t) counted.4 in
       let is : seconds_lacking (alarm_delay choices input (k ∷ h)) ≡ 600 - n = lacking_by_timer (alarm_delay choices input (k ∷ h)) n counted.1 counted.2 in
-      record {
-        at_least_1 = omega (arith, is, counted.2);
-        at_most_600 = omega (arith, is);
-        lacks = record { rise = rose.rise; last_rise = rose.last_rise; seconds_told = omega (arith, is, counted.2, rose.seconds_told) };
-      }
+      (record { rise = rose.rise; last_rise = rose.last_rise; seconds_told = omega (arith, is, counted.2, rose.seconds_told) }, omega (arith, is, counted.2), omega (arith, is))
 
   -- where the delay gives true, the condition holds now
   pub holds_if_held : (h : List Tick) (k : Tick) → AllAccepted (k ∷ h) → T (alarm_delay choices input (k ∷ h)).held → T (input (k ∷ h))

@@ -3,7 +3,7 @@ use mathlib.Core.Path.{◌≡◌, refl}
 use mathlib.Core.Logic.Iff
 use mathlib.Core.Logic.{◌↔◌}
 use mathlib.Core.List.{List, [], ◌∷◌}
-use mathlib.Core.Bool.{Bool, true, false, ◌&&◌}
+use mathlib.Core.Bool.{Bool, false, ◌&&◌}
 use lib.IntN.{ℤ, pos}
 use lib.Dec.{T}
 use lib.Ieee.{Float, round, add, mul, le}
@@ -12,7 +12,7 @@ use Rattle.std.proofs.lemmas.Float.{lt_of_lt_of_le}
 use Rattle.f64_helpers.specs.F64.{◌⊕◌, ◌⊗◌, ◌<ᶠ◌, decimal}
 use Rattle.box_choices.specs.declared.Choices.{Choices}
 use Rattle.cdl_recurrences.specs.CdlRecurrences.{less_hysteretic}
-use Rattle.cdl_recurrences.specs.DeadBand.{output_after}
+use Rattle.cdl_recurrences.specs.DeadBand.{output_after, AllStay}
 use Rattle.cdl_recurrences.proofs.DeadBandLaw.{OnSince, on_since_law}
 use Rattle.cooling_only_controller_timing.specs.History.{true_delay_after}
 use Rattle.cooling_only_controller_timing.proofs.TrueDelayLaw.{held_is_output}
@@ -22,13 +22,13 @@ use Rattle.air_box.specs.AirBox.{accepted_tick}
 use Rattle.air_box.specs.declared.Tick.{Tick}
 use Rattle.nights.specs.Nights.{Shown, fan}
 use Rattle.nights.specs.Demand3.{H}
-use Rattle.nights.specs.WhyNoAlarm.{command, AllBelow, DamperClosed}
+use Rattle.nights.specs.WhyNoAlarm.{command, DamperClosed}
 use Rattle.nights.proofs.Histories.{in_order}
 use Rattle.nights.proofs.TurnedOn.{TurnedOn, turned_on_law}
 use Rattle.nights.proofs.Grown.{grown, grown_choices}
 use Rattle.nights.proofs.FlowHighRule.{high_after}
 use Rattle.nights.proofs.Conditions.{samples}
-use Rattle.nights.proofs.SensorAlarm.{flow_high_kept}
+use Rattle.nights.proofs.SensorAlarm.{level_if, flow_high_kept}
 use Rattle.nights.proofs.AfterNights.{shown_at, with_outputs}
 
 -- ---- the damper's dead band over the commands
@@ -52,8 +52,8 @@ closed_since : (h : List Shown) → T (closed_after h) ↔ OnSince closes stays 
 unfolding less_hysteretic
 closed_since = on_since_law closes stays closes_stays
 
-in_order_law : (h : List Shown) → OnSince closes stays h ↔ TurnedOn closes (AllBelow upper) (in_order h)
-in_order_law = turned_on_law closes stays closes_stays (AllBelow upper) tt (λ s rest. Iff.rfl)
+in_order_law : (h : List Shown) → OnSince closes stays h ↔ TurnedOn closes (AllStay stays) (in_order h)
+in_order_law = turned_on_law closes stays closes_stays (AllStay stays) tt (λ s rest. Iff.rfl)
 
 pub closed_law : (h : List Shown) → T (closed_after h) ↔ DamperClosed (in_order h)
 closed_law h = (
@@ -93,9 +93,5 @@ leak_by_state choices h k = rw held_is_output
 leak_by_memories : (choices : Choices) (h : List Tick) (k : Tick) → leak_at choices h k ≡ (if leak_held choices (k ∷ h) then pos 4 else pos 0)
 leak_by_memories choices h k = rw (leak_by_state choices h k, leak_delay_kept choices (k ∷ h))
 
-four_if : (b : Bool) → ((if b then pos 4 else pos 0) ≡ pos 4) ↔ T b
-four_if true = (λ e. tt, λ t. refl)
-four_if false = (λ e. cc, λ t. absurd t)
-
 pub leak_is_four : (choices : Choices) (h : List Tick) (k : Tick) → (leak_at choices h k ≡ pos 4) ↔ T (leak_held choices (k ∷ h))
-leak_is_four choices h k = rw (leak_by_memories choices h k) (four_if (leak_held choices (k ∷ h)))
+leak_is_four choices h k = rw (leak_by_memories choices h k) (level_if 3 (leak_held choices (k ∷ h)))

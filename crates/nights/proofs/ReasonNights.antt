@@ -23,6 +23,7 @@ reason_nights = record {
   from_the_last_stop = refl;
   plain_second = refl;
   leak_in_mode_2 = refl;
+  first_told = refl;
   damper_open = refl;
 }
 

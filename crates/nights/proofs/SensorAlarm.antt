@@ -2,6 +2,7 @@
 use mathlib.Core.Path.{◌≡◌, refl}
 use mathlib.Core.Logic.{◌↔◌, ◌⊎◌}
 use mathlib.Core.List.{List, [], ◌∷◌}
+use Prim.Native.Nat.{ℕ, suc}
 use native.Mathlib.Omega.{arith}
 use mathlib.Core.Bool.{Bool, true, false, not, ◌&&◌}
 use lib.IntN.{ℤ, pos}
@@ -90,15 +91,16 @@ alarm_by_memories : (choices : Choices) (h : List Tick) (k : Tick) → alarm_at 
 unfolding controller_output alarms
 alarm_by_memories choices h k = rw (held_is_output, sensor_delay_kept choices h, flow_high_kept choices h, grown_choices choices h)
 
-three_if : (b : Bool) → ((if b then pos 3 else pos 0) ≡ pos 3) ↔ T b
-three_if true = (λ e. tt, λ t. refl)
-three_if false = (λ e. cc, λ t. absurd t)
+-- an alarm's level stands exactly if the alarm is on
+pub level_if : (n : ℕ) (b : Bool) → ((if b then pos (suc n) else pos 0) ≡ pos (suc n)) ↔ T b
+level_if n true = (λ e. tt, λ t. refl)
+level_if n false = (λ e. cc, λ t. absurd t)
 
 -- it is 3 exactly if the mode is 1 and the alarm is on; else it is 0
 pub alarm_is_three : (choices : Choices) (h : List Tick) (k : Tick) → (alarm_at choices h k ≡ pos 3) ↔ ((mode k ≡ pos 1) × T (sensor_on_after choices (k ∷ h)))
 alarm_is_three choices h k =
     let on = sensor_on_after choices (k ∷ h) in
-    let level = three_if (on && (mode k ==ᶻ 1)) in
+    let level = level_if 2 (on && (mode k ==ᶻ 1)) in
     rw (alarm_by_memories choices h k) (
       λ e. ((equals_means (mode k) 1).0 (and_r on (mode k ==ᶻ 1) (level.0 e)), and_l on (mode k ==ᶻ 1) (level.0 e)),
       λ p. level.1 (and_i on (mode k ==ᶻ 1) p.1 ((equals_means (mode k) 1).1 p.0)),

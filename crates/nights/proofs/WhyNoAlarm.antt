@@ -2,19 +2,20 @@
 use mathlib.Core.Path.{◌≡◌, refl, sym, ap, subst}
 use mathlib.Core.Logic.Iff
 use mathlib.Core.Logic.{◌↔◌}
-use mathlib.Core.List.{List, [], ◌∷◌}
-use Prim.Native.Nat.{ℕ}
+use mathlib.Core.List.{List, [], ◌∷◌, cons-ne-nil, append-ne-nil_of_right_ne-nil}
 use native.Mathlib.Omega.{arith}
-use mathlib.Core.Bool.{Bool, true, false, not, ◌&&◌, xor}
+use mathlib.Core.Bool.{Bool, true, false, not, not-not, ◌&&◌}
 use lib.IntN.{pos}
-use lib.Dec.{T, T_not}
+use lib.Dec.{T, T_not, not_T}
 use lib.Ieee.Fits.{and_i, and_l, and_r}
-use Rattle.std.specs.Prelude.{◌≢◌, Some}
+use Rattle.std.proofs.lemmas.List.{same_from_push}
+use Rattle.std.specs.Prelude.{Some}
 use Rattle.f64_helpers.specs.F64.{◌⊗◌, decimal}
 use Rattle.f64_helpers.specs.Integers.{◌==ᶻ◌}
 use Rattle.f64_helpers.proofs.Integers.{equals_means}
 use Rattle.box_choices.specs.declared.Choices.{Choices}
 use Rattle.cdl_recurrences.specs.CdlRecurrences.{greater_hysteretic, less_hysteretic, decided_by_memory}
+use Rattle.cdl_recurrences.proofs.MemoryDecided.{memory_decided}
 use Rattle.cooling_only_controller_airflow.specs.Airflow.{FLOW_HYSTERESIS, DAMPER_POSITION_HYSTERESIS}
 use Rattle.cooling_only_controller_timing.specs.declared.TrueDelayState.{TrueDelayState}
 use Rattle.air_box.specs.AirBox.{unticked, accepted_tick, tick, last_tick}
@@ -27,51 +28,30 @@ use Rattle.air_box.specs.declared.NoAlarmReason.TheVariants.{NoTick, NotOccupied
 use Rattle.air_box.proofs.Demands.{by_verdict, tick_refused}
 use Rattle.nights.specs.Nights.{box_after, night_of, Shown, shown, flow, fan, mode, FlowHigh}
 use Rattle.nights.specs.Demand3.{H}
-use Rattle.nights.specs.WhyNoAlarm.{ticks, command, High, Occupied, FanIsOff, Closed, DamperClosed, Lacks, ByMemory, SensorCondition, SensorReasonTrue, LeakCondition, LeakReasonTrue, sensor_reason_of, leak_reason_of, ReasonsTrue, AllRefused, WhyNoAlarm}
+use Rattle.nights.specs.WhyNoAlarm.{ticks, command, High, Occupied, FanRuns, FanIsOff, Closed, DamperClosed, Lacks, ByMemory, SensorCondition, SensorReasonTrue, LeakCondition, LeakReasonTrue, sensor_reason_of, leak_reason_of, ReasonsTrue, AllRefused, WhyNoAlarm}
 use Rattle.nights.proofs.AcceptedTicks.{AllAccepted}
 use Rattle.nights.proofs.Grown.{grown, grown_choices}
 use Rattle.nights.proofs.FlowHighRule.{high_after, high_law, H_held}
-use Rattle.nights.proofs.SensorAlarm.{sensor_input, sensor_held, on_after, flow_high_kept, sensor_delay_kept, alarm_is_three}
+use Rattle.nights.proofs.SensorAlarm.{high_fan_off_means, sensor_input, sensor_held, on_after, flow_high_kept, sensor_delay_kept, alarm_is_three}
 use Rattle.nights.proofs.AfterNights.{shown_at, with_outputs, accepted, ticks_in_order, after_night}
-use Rattle.nights.proofs.LastRise.{alarm_delay, LackingIs, lacking_is, holds_if_held, one_lacking, same_end, not_empty}
+use Rattle.nights.proofs.LastRise.{alarm_delay, lacking_is, holds_if_held, one_lacking}
 use Rattle.nights.proofs.LeakAlarm.{closed_after, closed_law, damper_closed_kept, leaks, leak_delay_kept, leak_is_four}
-use Rattle.nights.proofs.FirstTrue.{Asked, first_true, is_first, is_second, is_third, is_held, is_standing, is_none_other}
+use Rattle.nights.proofs.FirstTrue.{Asked, Says, first_true, says, is_none_other}
 
--- ---- truth values and what they mean
-both : (a b : Bool) → T (a && b) ↔ (T b × T a)
-both a b = (λ t. (and_r a b t, and_l a b t), λ p. and_i a b p.1 p.0)
+-- three that hold together
+together : (a b c : Bool) → T (a && b && c) ↔ (T a × T b × T c)
+together true true c = (λ t. (tt, tt, t), λ t. t.2)
+together true false c = (λ t. absurd t, λ t. absurd t.1)
+together false b c = (λ t. absurd t, λ t. absurd t.0)
 
-false_if : (b : Bool) → (T b → ⊥) → T (not b)
-false_if true f = f tt
-false_if false f = tt
-
-not_means : (C : Type 0) (b : Bool) → T b ↔ C → T (not b) ↔ (C → ⊥)
-not_means C b m = (λ n c. T_not b n (m.1 c), λ f. false_if b (λ t. f (m.0 t)))
-
-twice : (b : Bool) → T (not (not b)) ↔ T b
-twice true = (λ t. tt, λ t. tt)
-twice false = (λ t. t, λ t. t)
-
-all_three : {A B C D E F : Type 0} → A ↔ D → B ↔ E → C ↔ F → (A × B × C) ↔ (D × E × F)
-all_three p q r = (λ t. (p.0 t.0, q.0 t.1, r.0 t.2), λ t. (p.1 t.0, q.1 t.1, r.1 t.2))
-
-all_four : {A B C D E F G I : Type 0} → A ↔ E → B ↔ F → C ↔ G → D ↔ I → (A × B × C × D) ↔ (E × F × G × I)
-all_four p q r s = (λ t. (p.0 t.0, q.0 t.1, r.0 t.2, s.0 t.3), λ t. (p.1 t.0, q.1 t.1, r.1 t.2, s.1 t.3))
+-- not off is on
+on_if_not_off : (b : Bool) → (T (not b) → ⊥) ↔ T b
+on_if_not_off true = (λ n. tt, λ t n. n)
+on_if_not_off false = (λ n. n tt, λ t. absurd t)
 
 -- ---- memory decided: the other one would have given another answer
-unlike : (x y : Bool) → T (xor x y) ↔ (y ≢ x)
-unfolding xor
-unlike true true = (λ t. absurd t, λ f. absurd (f refl))
-unlike true false = (λ t e. cc, λ f. tt)
-unlike false true = (λ t e. cc, λ f. tt)
-unlike false false = (λ t. absurd t, λ f. absurd (f refl))
-
-told_by : (answer : Bool → Bool) (memory : Bool) → T (decided_by_memory answer memory) ↔ (answer (not memory) ≢ answer memory)
-unfolding decided_by_memory
-told_by answer memory = unlike (answer memory) (answer (not memory))
-
-by_memory : (answer : Bool → Bool) (Was : Type 0) (told memory : Bool) → told ≡ decided_by_memory answer memory → T memory ↔ Was → ByMemory answer Was told
-by_memory answer Was told memory e m = record { memory = memory; memory_is = m; exactly = rw e (told_by answer memory) }
+by_memory : (answer : Bool → Bool) (Was Is : Type 0) (told memory : Bool) → told ≡ decided_by_memory answer memory → T memory ↔ Was → T (answer memory) ↔ Is → ByMemory answer Was Is told
+by_memory answer Was Is told memory e m n = record { memory = memory; memory_is = m; answer_is = n; exactly = rw e (memory_decided.other_memory answer memory) }
 
 -- ---- what is asked of the two alarms, in order
 abbrev sensor_asked : Asked
@@ -105,19 +85,13 @@ module _ (choices : Choices) where
 
   -- ---- the sensor alarm
   condition_means : (second : Bool) (h : List Tick) (k : Tick) → T (sensor_input second (H choices) (k ∷ h)) ↔ SensorCondition second choices (accepted choices h) (shown_at choices h k)
-  condition_means false h k =
-      let all = both (high_after (H choices) (k ∷ h)) (not (fan k)) in
-      let high = was_high (k ∷ h) in
-      (λ t. (high.0 (all.0 t).1, (all.0 t).0), λ c. all.1 (c.1, high.1 c.0))
+  condition_means false h k = rw (ticks_in_order choices (k ∷ h)) (high_fan_off_means (H choices) (H_held choices) h k)
   condition_means true h k = Iff.rfl
 
   leak_means : (h : List Tick) (k : Tick) → T (leaks choices (k ∷ h)) ↔ LeakCondition choices (accepted choices h) (shown_at choices h k)
   leak_means h k =
-      let closed = closed_after (with_outputs choices (k ∷ h)) in
-      let high = high_after (H choices) (k ∷ h) in (
-        λ t. (and_l (fan k) closed (and_l (fan k && closed) high t), (was_closed (k ∷ h)).0 (and_r (fan k) closed (and_l (fan k && closed) high t)), (was_high (k ∷ h)).0 (and_r (fan k && closed) high t)),
-        λ c. and_i (fan k && closed) high (and_i (fan k) closed c.0 ((was_closed (k ∷ h)).1 c.1)) ((was_high (k ∷ h)).1 c.2),
-      )
+      let all = together (fan k) (closed_after (with_outputs choices (k ∷ h))) (high_after (H choices) (k ∷ h)) in
+      (λ t. let u = all.0 t in (u.0, (was_closed (k ∷ h)).0 u.1, (was_high (k ∷ h)).0 u.2), λ c. all.1 (c.0, (was_closed (k ∷ h)).1 c.1, (was_high (k ∷ h)).1 c.2))
 
   module _ (h : List Tick) (k : Tick) (a : AllAccepted (k ∷ h)) where
     abbrev now : Shown
@@ -142,11 +116,11 @@ module _ (choices : Choices) where
     sensor_delay = alarm_delay choices (sensor_input choices.second_reading (H choices)) (k ∷ h)
 
     abbrev sensor_chosen : NoAlarmReason
-    sensor_chosen = first_true sensor_asked (seconds_lacking sensor_delay) (not occupied) (fan k) (not high) sensor_delay.held
+    sensor_chosen = first_true sensor_asked (seconds_lacking sensor_delay) occupied (not (fan k)) high sensor_delay.held
 
     sensor_is : sensor_reason_of box ≡ record { reason = sensor_chosen; flow_by_memory = (kept h k).flow_by_memory }
     unfolding sensor_reason
-    sensor_is = rw (last_tick_is h k, flow_high_kept choices (k ∷ h), sensor_delay_kept choices (k ∷ h))
+    sensor_is = rw (last_tick_is h k, flow_high_kept choices (k ∷ h), sensor_delay_kept choices (k ∷ h), not-not (fan k))
 
     input_there : (second : Bool) → T (not (fan k)) → T high → T (sensor_input second (H choices) (k ∷ h))
     input_there false off up = and_i high (not (fan k)) up off
@@ -161,8 +135,8 @@ module _ (choices : Choices) where
         → T (on_after second choices.quiet (H choices) (k ∷ h)) ↔ (T (not (fan k)) × T high × T (sensor_held choices.quiet (sensor_input second (H choices)) (k ∷ h)))
     on_means false there = (λ t. (fan_off_there false (there t), and_l high (not (fan k)) (there t), t), λ p. p.2)
     on_means true there =
-        let all = both (sensor_held choices.quiet (sensor_input true (H choices)) (k ∷ h)) high in
-        (λ t. let p = all.0 t in (fan_off_there true (there p.1), p.0, p.1), λ p. all.1 (p.1, p.2))
+        let held = sensor_held choices.quiet (sensor_input true (H choices)) (k ∷ h) in
+        (λ t. (fan_off_there true (there (and_l held high t)), and_r held high t, and_l held high t), λ p. and_i held high p.2 p.1)
 
     stands_means : (T occupied × T (not (fan k)) × T high × T sensor_delay.held) ↔ (now.output.airflow_sensor_alarm ≡ pos 3)
     stands_means =
@@ -172,45 +146,28 @@ module _ (choices : Choices) where
           λ e. let t = three.0 e in let o = on.0 t.1 in (occupied_means.1 t.0, o.0, o.1, o.2),
         )
 
-    sensor_lacking : T high → T (not (fan k)) → T (not sensor_delay.held) → LackingIs choices (sensor_input choices.second_reading (H choices)) (SensorCondition choices.second_reading choices) (condition_means choices.second_reading) h k
-    sensor_lacking up off held = lacking_is choices _ _ (condition_means choices.second_reading) h k a (input_there choices.second_reading off up) held
-
-    -- the delay holds the alarm back, and so much is lacking
-    held_means : (lacking : ℕ) → (T (not (not occupied)) × T (not (fan k)) × T (not (not high)) × T (not sensor_delay.held) × (seconds_lacking sensor_delay ≡ lacking))
-        ↔ (Occupied now × FanIsOff now × High choices earlier now × (now.output.airflow_sensor_alarm ≢ pos 3) × Lacks (SensorCondition choices.second_reading choices) choices.quiet earlier now lacking)
-    held_means lacking = (
-      λ p.
-          let up = (twice high).0 p.2 in
-          let found = sensor_lacking up p.1 p.3 in
-          (occupied_means.0 ((twice occupied).0 p.0), p.1, (was_high (k ∷ h)).0 up, λ three. T_not sensor_delay.held p.3 (stands_means.1 three).3, subst (Lacks _ choices.quiet earlier now) p.4 found.lacks),
-      λ p.
-          let occ = occupied_means.1 p.0 in
-          let up = (was_high (k ∷ h)).1 p.2 in
-          let off = false_if sensor_delay.held (λ t. p.3 (stands_means.0 (occ, p.1, up, t))) in
-          ((twice occupied).1 occ, p.1, (twice high).1 up, off, one_lacking (SensorCondition choices.second_reading choices) choices.quiet earlier now _ lacking (sensor_lacking up p.1 off).lacks p.4),
-    )
+    sensor_says : Says sensor_asked (Occupied now) (FanIsOff now) (High choices earlier now) (now.output.airflow_sensor_alarm ≡ pos 3)
+        (Lacks (SensorCondition choices.second_reading choices) choices.quiet earlier now) sensor_chosen
+    sensor_says =
+        says sensor_asked (seconds_lacking sensor_delay) _ _ _ _ _ (one_lacking (SensorCondition choices.second_reading choices) choices.quiet earlier now)
+        occupied (not (fan k)) high sensor_delay.held occupied_means Iff.rfl (was_high (k ∷ h)) stands_means
+        (λ occ off up held. lacking_is choices (sensor_input choices.second_reading (H choices)) (SensorCondition choices.second_reading choices) (condition_means choices.second_reading) h k a (input_there choices.second_reading off up) held)
 
     sensor_true : SensorReasonTrue choices earlier now (sensor_reason_of box)
     sensor_true =
-        let lacking = seconds_lacking sensor_delay in
-        let p = not occupied in
-        let r = not high in
-        let held = sensor_delay.held in
         rw sensor_is record {
-          not_occupied = Iff.trans (is_first sensor_asked lacking p (fan k) r held) (not_means (Occupied now) occupied occupied_means);
-          fan_on = Iff.trans (is_second sensor_asked lacking p (fan k) r held) (Iff.and (Iff.trans (twice occupied) occupied_means) Iff.rfl);
-          flow_not_high =
-              Iff.trans (is_third sensor_asked lacking p (fan k) r held)
-              (all_three (Iff.trans (twice occupied) occupied_means) Iff.rfl (not_means (High choices earlier now) high (was_high (k ∷ h))));
-          held = λ n. Iff.trans (is_held sensor_asked lacking n p (fan k) r held) (held_means n);
-          from_1_to_600 = λ n e. let t = (is_held sensor_asked lacking n p (fan k) r held).0 e in let found = sensor_lacking ((twice high).0 t.2) t.1 t.3 in (omega (arith, t.4, found.at_least_1), omega (arith, t.4, found.at_most_600));
-          alarm_stands = Iff.trans (is_standing sensor_asked lacking p (fan k) r held) (Iff.trans (all_four (twice occupied) Iff.rfl (twice high) Iff.rfl) stands_means);
+          not_occupied = sensor_says.first;
+          fan_on = Iff.trans sensor_says.second (Iff.and Iff.rfl (on_if_not_off (fan k)));
+          flow_not_high = sensor_says.third;
+          held = sensor_says.held;
+          from_1_to_600 = sensor_says.from_1_to_600;
+          alarm_stands = sensor_says.stands;
           no_other = (
-            is_none_other sensor_asked lacking NoTick (λ e. cc) (λ e. cc) (λ e. cc) (λ e. cc) (λ e. cc) p (fan k) r held,
-            is_none_other sensor_asked lacking FanOff (λ e. cc) (λ e. cc) (λ e. cc) (λ e. cc) (λ e. cc) p (fan k) r held,
-            is_none_other sensor_asked lacking DamperNotClosed (λ e. cc) (λ e. cc) (λ e. cc) (λ e. cc) (λ e. cc) p (fan k) r held,
+            is_none_other sensor_asked (seconds_lacking sensor_delay) NoTick (λ e. cc) (λ e. cc) (λ e. cc) (λ e. cc) (λ e. cc) occupied (not (fan k)) high sensor_delay.held,
+            is_none_other sensor_asked (seconds_lacking sensor_delay) FanOff (λ e. cc) (λ e. cc) (λ e. cc) (λ e. cc) (λ e. cc) occupied (not (fan k)) high sensor_delay.held,
+            is_none_other sensor_asked (seconds_lacking sensor_delay) DamperNotClosed (λ e. cc) (λ e. cc) (λ e. cc) (λ e. cc) (λ e. cc) occupied (not (fan k)) high sensor_delay.held,
           );
-          flow_by_memory = by_memory _ _ (kept h k).flow_by_memory (high_after (H choices) h) (flow_told h k) (was_high h);
+          flow_by_memory = by_memory _ _ _ (kept h k).flow_by_memory (high_after (H choices) h) (flow_told h k) (was_high h) (was_high (k ∷ h));
         }
 
     -- ---- the leak alarm
@@ -221,31 +178,12 @@ module _ (choices : Choices) where
     leak_delay = alarm_delay choices (leaks choices) (k ∷ h)
 
     abbrev leak_chosen : NoAlarmReason
-    leak_chosen = first_true leak_asked (seconds_lacking leak_delay) (not (fan k)) (not closed) (not high) leak_delay.held
+    leak_chosen = first_true leak_asked (seconds_lacking leak_delay) (fan k) closed high leak_delay.held
 
     leak_is : leak_reason_of box
         ≡ record { reason = leak_chosen; damper_by_memory = (kept h k).damper_by_memory; flow_by_memory = (kept h k).flow_by_memory }
     unfolding leak_reason
     leak_is = rw (last_tick_is h k, flow_high_kept choices (k ∷ h), damper_closed_kept choices (k ∷ h), leak_delay_kept choices (k ∷ h))
-
-    leak_lacking : T (fan k) → T closed → T high → T (not leak_delay.held) → LackingIs choices (leaks choices) (LeakCondition choices) leak_means h k
-    leak_lacking runs shut up held = lacking_is choices _ _ leak_means h k a (and_i (fan k && closed) high (and_i (fan k) closed runs shut) up) held
-
-    leak_held_means : (lacking : ℕ) → (T (not (not (fan k))) × T (not (not closed)) × T (not (not high)) × T (not leak_delay.held) × (seconds_lacking leak_delay ≡ lacking))
-        ↔ (LeakCondition choices earlier now × (now.output.leaking_damper_alarm ≢ pos 4) × Lacks (LeakCondition choices) choices.quiet earlier now lacking)
-    leak_held_means lacking = (
-      λ p.
-          let runs = (twice (fan k)).0 p.0 in
-          let shut = (twice closed).0 p.1 in
-          let up = (twice high).0 p.2 in
-          ((runs, (was_closed (k ∷ h)).0 shut, (was_high (k ∷ h)).0 up), λ four. T_not leak_delay.held p.3 ((leak_is_four choices h k).0 four), subst (Lacks (LeakCondition choices) choices.quiet earlier now) p.4 (leak_lacking runs shut up p.3).lacks),
-      λ p.
-          let runs = p.0.0 in
-          let shut = (was_closed (k ∷ h)).1 p.0.1 in
-          let up = (was_high (k ∷ h)).1 p.0.2 in
-          let off = false_if leak_delay.held (λ t. p.1 ((leak_is_four choices h k).1 t)) in
-          ((twice (fan k)).1 runs, (twice closed).1 shut, (twice high).1 up, off, one_lacking (LeakCondition choices) choices.quiet earlier now _ lacking (leak_lacking runs shut up off).lacks p.2),
-    )
 
     -- where the delay gives true, fan, damper and flow are as a leak has them
     leak_stands_means : (T (fan k) × T closed × T high × T leak_delay.held) ↔ (now.output.leaking_damper_alarm ≡ pos 4)
@@ -253,36 +191,33 @@ module _ (choices : Choices) where
       λ p. (leak_is_four choices h k).1 p.3,
       λ e.
           let t = (leak_is_four choices h k).0 e in
-          let u = holds_if_held choices (leaks choices) (LeakCondition choices) leak_means h k a t in
-          (and_l (fan k) closed (and_l (fan k && closed) high u), and_r (fan k) closed (and_l (fan k && closed) high u), and_r (fan k && closed) high u, t),
+          let u = (together (fan k) closed high).0 (holds_if_held choices (leaks choices) (LeakCondition choices) leak_means h k a t) in
+          (u.0, u.1, u.2, t),
     )
+
+    leak_says : Says leak_asked (FanRuns now) (Closed earlier now) (High choices earlier now) (now.output.leaking_damper_alarm ≡ pos 4)
+        (Lacks (LeakCondition choices) choices.quiet earlier now) leak_chosen
+    leak_says =
+        says leak_asked (seconds_lacking leak_delay) _ _ _ _ _ (one_lacking (LeakCondition choices) choices.quiet earlier now)
+        (fan k) closed high leak_delay.held Iff.rfl (was_closed (k ∷ h)) (was_high (k ∷ h)) leak_stands_means
+        (λ runs shut up held. lacking_is choices (leaks choices) (LeakCondition choices) leak_means h k a ((together (fan k) closed high).1 (runs, shut, up)) held)
 
     leak_true : LeakReasonTrue choices earlier now (leak_reason_of box)
     leak_true =
-        let lacking = seconds_lacking leak_delay in
-        let p = not (fan k) in
-        let q = not closed in
-        let r = not high in
-        let held = leak_delay.held in
         rw leak_is record {
-          fan_off = is_first leak_asked lacking p q r held;
-          damper_not_closed = Iff.trans (is_second leak_asked lacking p q r held) (Iff.and (twice (fan k)) (not_means (Closed earlier now) closed (was_closed (k ∷ h))));
-          flow_not_high =
-              Iff.trans (is_third leak_asked lacking p q r held)
-              (all_three (twice (fan k)) (Iff.trans (twice closed) (was_closed (k ∷ h))) (not_means (High choices earlier now) high (was_high (k ∷ h))));
-          held = λ n. Iff.trans (is_held leak_asked lacking n p q r held) (leak_held_means n);
-          from_1_to_600 = λ n e.
-              let t = (is_held leak_asked lacking n p q r held).0 e in
-              let found = leak_lacking ((twice (fan k)).0 t.0) ((twice closed).0 t.1) ((twice high).0 t.2) t.3 in
-              (omega (arith, t.4, found.at_least_1), omega (arith, t.4, found.at_most_600));
-          alarm_stands = Iff.trans (is_standing leak_asked lacking p q r held) (Iff.trans (all_four (twice (fan k)) (twice closed) (twice high) Iff.rfl) leak_stands_means);
+          fan_off = Iff.trans leak_says.first (λ n. not_T (fan k) n, λ t. T_not (fan k) t);
+          damper_not_closed = leak_says.second;
+          flow_not_high = leak_says.third;
+          held = λ n. Iff.trans (leak_says.held n) (λ t. ((t.0, t.1, t.2), t.3, t.4), λ t. (t.0.0, t.0.1, t.0.2, t.1, t.2));
+          from_1_to_600 = leak_says.from_1_to_600;
+          alarm_stands = leak_says.stands;
           no_other = (
-            is_none_other leak_asked lacking NoTick (λ e. cc) (λ e. cc) (λ e. cc) (λ e. cc) (λ e. cc) p q r held,
-            is_none_other leak_asked lacking NotOccupied (λ e. cc) (λ e. cc) (λ e. cc) (λ e. cc) (λ e. cc) p q r held,
-            is_none_other leak_asked lacking FanOn (λ e. cc) (λ e. cc) (λ e. cc) (λ e. cc) (λ e. cc) p q r held,
+            is_none_other leak_asked (seconds_lacking leak_delay) NoTick (λ e. cc) (λ e. cc) (λ e. cc) (λ e. cc) (λ e. cc) (fan k) closed high leak_delay.held,
+            is_none_other leak_asked (seconds_lacking leak_delay) NotOccupied (λ e. cc) (λ e. cc) (λ e. cc) (λ e. cc) (λ e. cc) (fan k) closed high leak_delay.held,
+            is_none_other leak_asked (seconds_lacking leak_delay) FanOn (λ e. cc) (λ e. cc) (λ e. cc) (λ e. cc) (λ e. cc) (fan k) closed high leak_delay.held,
           );
-          damper_by_memory = by_memory _ _ (kept h k).damper_by_memory (closed_after (with_outputs choices h)) (damper_told h k) (was_closed h);
-          flow_by_memory = by_memory _ _ (kept h k).flow_by_memory (high_after (H choices) h) (flow_told h k) (was_high h);
+          damper_by_memory = by_memory _ _ _ (kept h k).damper_by_memory (closed_after (with_outputs choices h)) (damper_told h k) (was_closed h) (was_closed (k ∷ h));
+          flow_by_memory = by_memory _ _ _ (kept h k).flow_by_memory (high_after (H choices) h) (flow_told h k) (was_high h) (was_high (k ∷ h));
         }
 
   -- ---- of a box that has accepted a history
@@ -291,16 +226,16 @@ module _ (choices : Choices) where
   reasons_after [] a =
       record {
         no_tick = λ e. (refl, refl);
-        sensor = λ earlier now e. absurd (not_empty earlier now [] (sym e));
-        leak = λ earlier now e. absurd (not_empty earlier now [] (sym e));
+        sensor = λ earlier now e. absurd (append-ne-nil_of_right_ne-nil earlier (cons-ne-nil now []) (sym e));
+        leak = λ earlier now e. absurd (append-ne-nil_of_right_ne-nil earlier (cons-ne-nil now []) (sym e));
       }
   reasons_after (k ∷ h) a =
       record {
-        no_tick = λ e. absurd (not_empty (accepted choices h) (shown_at choices h k) [] e);
-        sensor = λ before last e. let same = same_end (accepted choices h) before (shown_at choices h k) last e in
+        no_tick = λ e. absurd (append-ne-nil_of_right_ne-nil (accepted choices h) (cons-ne-nil (shown_at choices h k) []) e);
+        sensor = λ before last e. let same = same_from_push (accepted choices h) before (shown_at choices h k) last e in
             subst (λ (l : List Shown). SensorReasonTrue choices l last (sensor_reason_of (grown choices (k ∷ h)))) same.0
             (subst (λ (s : Shown). SensorReasonTrue choices (accepted choices h) s (sensor_reason_of (grown choices (k ∷ h)))) same.1 (sensor_true h k a));
-        leak = λ before last e. let same = same_end (accepted choices h) before (shown_at choices h k) last e in
+        leak = λ before last e. let same = same_from_push (accepted choices h) before (shown_at choices h k) last e in
             subst (λ (l : List Shown). LeakReasonTrue choices l last (leak_reason_of (grown choices (k ∷ h)))) same.0
             (subst (λ (s : Shown). LeakReasonTrue choices (accepted choices h) s (leak_reason_of (grown choices (k ∷ h)))) same.1 (leak_true h k a));
       }

@@ -111,9 +111,13 @@ pub record ReasonNights : Type 0 where
   pub leak_in_mode_2 :
       leak_told true (with_fan_off 0 high ∷ in_mode_2 (with_fan_on 60 high) ∷ in_mode_2 (with_fan_on 180 between) ∷ [])
       ≡ leak FanOff false false ∷ leak (Held 600) false false ∷ leak (Held 480) false true ∷ []
-  -- A damper that its override opens is not closed. At the next tick, where it is closed, the flow is what is missing.
+  -- Of several that are true the first is told: the mode before the fan, and that before the flow,
+  pub first_told :
+      sensor_told true false (in_mode_2 (with_fan_on 0 low) ∷ with_fan_on 60 low ∷ with_fan_off 120 low ∷ [])
+      ≡ sensor NotOccupied false ∷ sensor FanOn false ∷ sensor FlowNotHigh false ∷ []
+  -- and of the leak the damper before the flow: opened by its override here, and then closed by it.
   pub damper_open :
-      leak_told true (at_time zero (pos 1) (bench_tick high (pos 2) (pos 2) true) ∷ with_fan_on 60 low ∷ [])
+      leak_told true (at_time zero (pos 1) (bench_tick low (pos 2) (pos 2) true) ∷ with_fan_on 60 low ∷ [])
       ≡ leak DamperNotClosed false false ∷ leak FlowNotHigh false false ∷ []
 
 -- ---- seconds told of any timer

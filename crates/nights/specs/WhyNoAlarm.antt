@@ -8,6 +8,7 @@ use Rattle.f64_helpers.specs.F64.{◌⊕◌, ◌⊗◌, ◌<ᶠ◌, decimal}
 use Rattle.f64_helpers.specs.Seconds.{seconds}
 use Rattle.box_choices.specs.declared.Choices.{Choices}
 use Rattle.cdl_recurrences.specs.CdlRecurrences.{greater_hysteretic, less_hysteretic}
+use Rattle.cdl_recurrences.specs.DeadBand.{AllStay}
 use Rattle.cooling_only_controller_airflow.specs.Airflow.{FLOW_HYSTERESIS, DAMPER_POSITION_HYSTERESIS}
 use Rattle.air_box.specs.AirBox.{unticked, tick}
 use Rattle.air_box.specs.Demand1.{AllYes}
@@ -43,10 +44,6 @@ High choices earlier now = FlowHigh (H choices) (ticks (earlier ++ (now ∷ []))
 abbrev pub command : Shown → Float
 command s = s.output.damper_command
 
-abbrev pub AllBelow : Float → List Shown → Type 0
-AllBelow limit [] = Unit
-AllBelow limit (s ∷ rest) = T (command s <ᶠ limit) × AllBelow limit rest
-
 -- The damper is closed at the last of the accepted ticks: at it, or at some earlier one, the command was below 0.01,
 -- and at every one from that to the last it was below 0.01 + 0.005.
 pub record DamperClosed (accepted : List Shown) : Type 0 where
@@ -55,24 +52,25 @@ pub record DamperClosed (accepted : List Shown) : Type 0 where
   pub since : List Shown
   pub parts : accepted ≡ before ++ (closing ∷ since)
   pub below : T (command closing <ᶠ decimal 1 100)
-  pub stays_below : AllBelow (decimal 1 100 ⊕ (decimal 5 10 ⊗ decimal 1 100)) (closing ∷ since)
+  pub stays_below : AllStay (λ (s : Shown). command s <ᶠ decimal 1 100 ⊕ (decimal 5 10 ⊗ decimal 1 100)) (closing ∷ since)
 
 abbrev pub Closed : List Shown → Shown → Type 0
 Closed earlier now = DamperClosed (earlier ++ (now ∷ []))
 
 -- ---- since when a condition has held
 
--- At the accepted tick before, the last of `earlier`, it did not hold. Where there was none, a quiet start counts as that.
+-- It did not hold at the last of the accepted ticks `earlier`.
 pub record FalseBefore (Holds : List Shown → Shown → Type 0) (earlier : List Shown) : Type 0 where
   pub before : List Shown
   pub last : Shown
   pub parts : earlier ≡ before ++ (last ∷ [])
   pub is_false : ¬ Holds before last
 
+-- So it rises at the tick after these, if it holds there. The first accepted tick counts as a rise in a quiet start, and not in a plain one.
 abbrev pub Rose : (List Shown → Shown → Type 0) → Bool → List Shown → Type 0
 Rose Holds quiet earlier = FalseBefore Holds earlier ⊎ ((earlier ≡ []) × T quiet)
 
--- It last rose at `rise`: it has held at every accepted tick from there to the last, and not before it.
+-- It last rose at `rise`: it has held at every accepted tick from there to the last, and did not at the one before.
 pub record LastRise (Holds : List Shown → Shown → Type 0) (quiet : Bool) (accepted : List Shown) (rise : Shown) : Type 0 where
   pub earlier : List Shown
   pub since : List Shown
@@ -86,24 +84,26 @@ pub record Lacks (Holds : List Shown → Shown → Type 0) (quiet : Bool) (earli
   pub last_rise : LastRise Holds quiet (earlier ++ (now ∷ [])) rise
   pub seconds_told : lacking + seconds now.ticked.t ≡ 600 + seconds rise.ticked.t
 
--- ---- N2's answer: whether the other memory would have given another answer. The memory is what was so (`Was`) at the accepted tick before.
-pub record ByMemory (answer : Bool → Bool) (Was : Type 0) (told : Bool) : Type 0 where
+-- ---- N2's answer: whether the other memory would have given another answer. The memory is what was so (`Was`) at the accepted tick before, and
+-- with it the answer is what is so now (`Is`).
+pub record ByMemory (answer : Bool → Bool) (Was Is : Type 0) (told : Bool) : Type 0 where
   pub memory : Bool
   pub memory_is : T memory ↔ Was
-  pub exactly : T told ↔ (answer (not memory) ≢ answer memory)
+  pub answer_is : T (answer memory) ↔ Is
+  pub exactly : T told ↔ (answer (not memory) ≡ not (answer memory))
 
 abbrev pub FlowByMemory : Choices → List Shown → Shown → Bool → Type 0
 FlowByMemory choices earlier now told =
-    ByMemory (greater_hysteretic (flow now.ticked) (H choices) FLOW_HYSTERESIS) (FlowHigh (H choices) (ticks earlier)) told
+    ByMemory (greater_hysteretic (flow now.ticked) (H choices) FLOW_HYSTERESIS) (FlowHigh (H choices) (ticks earlier)) (High choices earlier now) told
 
 abbrev pub DamperByMemory : List Shown → Shown → Bool → Type 0
 DamperByMemory earlier now told =
-    ByMemory (less_hysteretic (command now) DAMPER_POSITION_HYSTERESIS (decimal 5 10 ⊗ DAMPER_POSITION_HYSTERESIS)) (DamperClosed earlier) told
+    ByMemory (less_hysteretic (command now) DAMPER_POSITION_HYSTERESIS (decimal 5 10 ⊗ DAMPER_POSITION_HYSTERESIS)) (DamperClosed earlier) (Closed earlier now) told
 
 -- ---- the sensor alarm
 
 -- What has to hold for 600 seconds, by whether the reading is the second: in the first flow is high with the fan off, in the second the fan is off.
--- The mode is in neither.
+-- The mode is in neither. The second's last rise is the fan's last stop.
 abbrev pub SensorCondition : Bool → Choices → List Shown → Shown → Type 0
 SensorCondition false choices earlier now = High choices earlier now × FanIsOff now
 SensorCondition true choices earlier now = FanIsOff now
