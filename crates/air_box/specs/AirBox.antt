@@ -116,7 +116,7 @@ fresh_box start = unticked (usual (delay_on_init start))
 
 -- What it keeps of a tick that it accepts (document 02, N3), for the reasons of NoAlarm.antt: the mode, the fan, and N2's answer for the dead band
 -- of the flow and for that of the damper. The comparisons are those of the alarms stage, `flow_high` and `damper_closed`, at the memories that
--- the tick met; the damper's position is its command after the override.
+-- the tick met; which that is makes no difference to whether it decided. The damper's position is its command after the override.
 abbrev pub last_tick : AlarmsState → ControllerInput → Float → Choices → LastTick
 last_tick memories input damper_command choices =
     let flow_high = greater_hysteretic input.discharge_airflow (decimal 1 10 ⊗ choices.design_cooling_maximum_flow) FLOW_HYSTERESIS in
