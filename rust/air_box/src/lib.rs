@@ -347,8 +347,9 @@ pub enum NoAlarmReason {
     DamperNotClosed,
     /// 65.
     FlowNotHigh,
-    /// 66. All is there, but for less than 600 seconds; so many of them, from 1 to 600, are lacking at the last accepted tick. It is displayed as
-    /// `held`, without them.
+    /// 66. All is there, but for less than 600 seconds; so many of them, from 1 to 600, are lacking at the last accepted tick.
+    ///
+    /// It is displayed as `held`, without them.
     Held { seconds_lacking: u16 },
 }
 
