@@ -2,8 +2,7 @@
    desk code, its meaning, and for the sensor alarm and the leak alarm the reason why it does not stand: at the first accepted tick of a box, whenever the code
    changes, whenever one of the two begins or ceases to be held, that is, to wait out its 600 seconds, and whenever memory begins or ceases to have a say in one
    that is held. So an alarm is seen to come before it stands, and it is seen where it does not come. Other changes of a reason have no line.
-   What the code or the other reason says of the fan is left out: the sensor alarm's `fan on` beside the codes 12, 13 and 34, which only a running fan has, and
-   the leak alarm's `fan off` where the sensor alarm stands or its reason has the fan off.
+   The leak alarm's `fan off` is left out where the line says it already: the sensor alarm stands, is held or lacks the flow with the fan off alone.
    A refused tick or building has a line with dashes for the time, the number of the refusal and its meaning; a line that is neither has one too. */
 #define _POSIX_C_SOURCE 200809L
 #include <inttypes.h>
@@ -73,9 +72,8 @@ static bool put_why(const Why *why) {
     return written && put_memory(why);
 }
 
-/* Whether the line tells the reason already. */
+/* Whether the line tells the reason already: that the fan is off, by the sensor alarm or its reason. */
 static bool is_told(const Shown *shown, uint8_t reason) {
-    if (reason == AIR_BOX_FAN_ON) return shown->code != AIR_BOX_DESK_NO_ALARM;
     return reason == AIR_BOX_FAN_OFF && shown->why[SENSOR].reason != AIR_BOX_NOT_OCCUPIED;
 }
 
