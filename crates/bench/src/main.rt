@@ -4,8 +4,9 @@
 use air_box::{AirBox, AirBoxStep, Start, Tick, desk_code};
 use cdl_recurrences::{DeadBandOutput, greater_hysteretic, hysteresis, less_hysteretic};
 use cooling_only_controller::{ControllerInput, ControllerOutput};
-use std::fmt::{self, Display, InlineText};
+use std::fmt::{self, Display};
 use std::io;
+use streams::Reason;
 
 // Calm readings in mode 1. The cases vary some of them.
 fn calm() -> ControllerInput {
@@ -52,21 +53,6 @@ fn print<T: Display + Drop>(rt: HostRuntime, label: &str, value: T) {
 
 fn cannot_write(rt: HostRuntime, error: io::Error) {
     let _ = eprintln!(rt; "bench: cannot write: {}", Reason(error));
-}
-
-// What std says of an error, without the number that stands behind the system's words, as ` (os error 28)`.
-// ticks has the same: no crate that both stand on reads or writes.
-#[derive(Clone, Copy)]
-struct Reason(io::Error);
-
-impl Display for Reason {
-    fn fmt<W: fmt::Write>(&self, f: &mut fmt::Formatter<W>) -> fmt::Result {
-        let said = InlineText::<128>::of(self.0);
-        match said.as_str().split_once(" (os error ") {
-            Some((words, _)) => f.write_str(words),
-            None => f.write_str(said.as_str()),
-        }
-    }
 }
 
 // A flag that was seen, printed as 1 or 0; 2 stands where what is seen does not hold together.
