@@ -1,0 +1,5 @@
+pub mod Limits
+pub mod OneBox
+pub mod Running
+pub mod SensorCodes
+pub mod SmallTraces

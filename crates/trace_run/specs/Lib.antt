@@ -1,0 +1,4 @@
+pub mod TraceRun
+pub mod OneBox
+pub mod SensorCodes
+pub mod SmallTraces
