@@ -1,4 +1,5 @@
 //! A small random source (splitmix64), the same on every machine for the same seed.
+#![allow(dead_code)]
 
 pub struct Dice(u64);
 
