@@ -38,11 +38,11 @@
    - x86-64 with the System V ABI, SSE2 and the floating-point state in which a program starts, as air_box.h says it of its archive.
    - No allocation, no global or static variable, no errno; calls may run at the same time on different buffers. It calls nothing out of the archive but
      memset and memcpy, which a program without a C library has to bring itself.
-   - The sixteen boxes lie on the stack. A run was seen to take some 19,400 bytes of it, whatever the trace; no proof bounds them. A thread
-     with a small stack has to have that room.
+   - The sixteen boxes lie on the stack. A run was seen to take some 19,400 bytes of it, whatever the trace; no proof bounds them. A thread with a small
+     stack has to have that room.
    - A trace of any length, and a buffer of any length, none included. A record takes at least 14 bytes, so a buffer of a fourteenth of the trace's bytes is
-     never too short. Every loop goes over the sixteen boxes, the trace's bytes, the numbers of a record or the records, and there is no recursion and no indirect jump: a run
-     ends with its trace at the latest, in a time that grows as the trace does.
+     never too short. Every loop goes over the sixteen boxes, the trace's bytes, the numbers of a record or the records, and there is no recursion and no
+     indirect jump: a run ends with its trace at the latest, in a time that grows as the trace does.
 
    What a caller keeps to. `trace` points to `trace_length` bytes that may be read, and `codes` to `codes_length` bytes that may be written. Neither pointer is
    null, even where its length is 0. The two do not lie over each other, and while a run goes on nobody else writes to either. `second_reading` is 0 or 1, and

@@ -123,7 +123,7 @@ fn read_to_end(rt: HostRuntime, room: &mut [u8]) -> io::Result<usize>
     Ok(size)
 }
 
-// The text of a run that is not made yet. It goes through the accepted records once more, for their times and boxes.
+// What is left to make of a run's text. It goes through the accepted records once more, for their times and boxes.
 #[derive(Drop)]
 struct RunText<'a> {
     // stands past the records that have their lines
@@ -178,7 +178,7 @@ impl<'a> RunText<'a> {
                 self.codes = codes;
                 code_text(self.seconds, record.box_number, code)
             }
-            // never, since each code has its record
+            // neither comes up, since each code has its record
             Ok(None) => self.end(),
             Err(_) => self.end(),
         }

@@ -70,8 +70,7 @@ pub fn write_all(rt: HostRuntime, bytes: &[u8]) -> Result<(), (usize, io::Error)
 
 // What was written to a file on another machine may be lost as late as here.
 // std does not close standard output. So a file that it goes to is opened once more, and what was written to it brought to its device, which a close would tell of at the latest.
-// A pipe or a terminal has no device behind it, and to open a pipe that nobody reads would wait; nor has a file of a system that knows no such call. An output that was closed from the start has no answer to lose that was not told of.
-// A system that knows no such call is no failure.
+// A pipe or a terminal has no device behind it, and to open a pipe that nobody reads would wait. A system that knows no such call is no failure. An output that was closed from the start has nothing to lose that was not told of.
 pub fn sync_output(rt: HostRuntime) -> io::Result<()>
     ensures { IfErr result (λ error. error_kind error ≢ ErrorKind.InvalidInput) }
 {
