@@ -52,33 +52,31 @@ impl Night {
 /// A side takes all nights, and gives the sum of their codes.
 type Side = fn(&[Night]) -> u64;
 
-fn sum(codes: &[u8]) -> u64 {
-    codes.iter().map(|&code| u64::from(code)).sum()
+/// The sum of the codes that a run gives of each trace, which it has to run to its end: it answers with the number.
+fn codes_by(nights: &[Night], run: impl Fn(&Night, &mut [u8]) -> u8) -> u64 {
+    let of = |night: &Night| {
+        let mut codes = vec![0; night.rust.len()];
+        assert!(run(night, &mut codes) == 0);
+        codes.iter().map(|&code| u64::from(code)).sum::<u64>()
+    };
+    nights.iter().map(of).sum()
 }
 
 /// The codes of the port's run of each trace.
 #[inline(never)]
 #[unsafe(no_mangle)]
 fn port_run(nights: &[Night]) -> u64 {
-    let of = |night: &Night| {
-        let mut codes = vec![0; night.rust.len()];
+    codes_by(nights, |night, codes| {
         let room = codes.len();
-        assert!(trace_port::run(&night.trace, false, &mut codes, 0, room).number == 0);
-        sum(&codes)
-    };
-    nights.iter().map(of).sum()
+        trace_port::run(&night.trace, false, codes, 0, room).number
+    })
 }
 
 /// The same, of the published Rust's boxes behind the reference's reading.
 #[inline(never)]
 #[unsafe(no_mangle)]
 fn rust_run(nights: &[Night]) -> u64 {
-    let of = |night: &Night| {
-        let mut codes = vec![0; night.rust.len()];
-        assert!(trace::run(TEXTS, None, &night.trace, false, &mut codes).number == 0);
-        sum(&codes)
-    };
-    nights.iter().map(of).sum()
+    codes_by(nights, |night, codes| trace::run(TEXTS, None, &night.trace, false, codes).number)
 }
 
 /// The reference's reading alone, with the limits.

@@ -3,9 +3,10 @@
 // A read or a write that fails ends the program and is told on standard error, with the system's reason.
 #![tactic(auto)]
 
-ghost use Rattle.std.specs.Prelude.{◌≡◌, ◌≤◌, ◌<◌, ◌++◌, false, true, IfOk, length};
+ghost use Rattle.std.specs.Prelude.{◌≡◌, ◌≤◌, ◌<◌, ◌+◌, ◌++◌, false, true, IfOk, length};
 ghost use Rattle.arrayvec.specs.ArrayVec.{array_vec_len};
 ghost use Rattle.trace_run.specs.TraceRun.{run_trace};
+ghost use Rattle.text_pieces.specs.TextPieces.{decimal_text};
 ghost use Rattle.replay.specs.Replay.{code_line, last_line, too_large_line, run_text, text_left, lines_at_most};
 
 use arrayvec::ArrayVec;
@@ -193,37 +194,44 @@ impl<'a> RunText<'a> {
     }
 }
 
+#[tactic(auto, unfolding(crate::specs::Replay::code_line))]
 fn code_text(seconds: u64, box_number: u64, code: u8) -> ArrayVec<u8, 64>
     ensures { result.items ≡ code_line seconds box_number code }
 {
     let mut text = ArrayVec::new();
-    put_decimal(&mut text, seconds);
-    put(&mut text, b" ");
-    put_decimal(&mut text, box_number);
-    put(&mut text, b" ");
-    put_decimal(&mut text, code as u64);
-    put(&mut text, b"\n");
+    put_number(&mut text, seconds, b" ");
+    put_number(&mut text, box_number, b" ");
+    put_number(&mut text, code as u64, b"\n");
     text
 }
 
+#[tactic(auto, unfolding(crate::specs::Replay::last_line))]
 fn last_text(done: u64, number: u8) -> ArrayVec<u8, 64>
     ensures { result.items ≡ last_line done number }
 {
     let mut text = ArrayVec::new();
     put(&mut text, b"done ");
-    put_decimal(&mut text, done);
-    put(&mut text, b" number ");
-    put_decimal(&mut text, number as u64);
-    put(&mut text, b"\n");
+    put_number(&mut text, done, b" number ");
+    put_number(&mut text, number as u64, b"\n");
     text
 }
 
+#[tactic(auto, unfolding(crate::specs::Replay::too_large_line))]
 fn too_large_text(room: u64) -> ArrayVec<u8, 64>
     ensures { result.items ≡ too_large_line room }
 {
     let mut text = ArrayVec::new();
     put(&mut text, b"trace larger than ");
-    put_decimal(&mut text, room);
-    put(&mut text, b" bytes\n");
+    put_number(&mut text, room, b" bytes\n");
     text
+}
+
+// A number, and the bytes that stand after it.
+fn put_number(text: &mut ArrayVec<u8, 64>, n: u64, after: &[u8])
+    requires { array_vec_len text.old + 20 + length after.now ≤ 64 }
+    ensures items { text.new.items ≡ text.old.items ++ decimal_text n ++ after.now }
+    ensures room { array_vec_len text.new ≤ array_vec_len text.old + 20 + length after.now }
+{
+    put_decimal(text, n);
+    put(text, after);
 }
