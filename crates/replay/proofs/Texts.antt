@@ -1,29 +1,24 @@
 -- A run's text on its way: at its start it is all of it, and each line is the next. Assumes nothing.
 use mathlib.Core.Path.{◌≡◌, refl, sym, ap, ◌∙◌}
-use Prim.Native.Nat.{ℕ, ◌+◌, ◌-◌, ◌%◌, ◌^◌, ◌≤◌}
+use Prim.Native.Nat.{ℕ, ◌+◌, ◌%◌, ◌^◌, ◌≤◌}
 use Rattle.std.proofs.Math.Nat.{mod-eq_of_lt}
 use Rattle.std.proofs.Math.Seq.{take-append_seam}
 use native.Mathlib.Omega.{arith}
-use mathlib.Core.Bool.{Bool, true, false}
+use mathlib.Core.Bool.{Bool}
 use mathlib.Core.List.{List, [], ◌∷◌, ◌++◌, append_assoc}
-use lib.ListN.{take, drop, set, length}
-use lib.Dec.{eqb}
-use Rattle.std.specs.Prelude.{Result, Ok, Err, Option, Some, None, if◌then◌else◌}
+use lib.ListN.{take, drop, length}
+use Rattle.std.specs.Prelude.{Result, Option, None}
 use Rattle.std.proofs.lemmas.List.{length-map}
-use Rattle.cooling_only_controller.specs.declared.ControllerOutput.{ControllerOutput}
-use Rattle.air_box.specs.AirBox.{tick}
-use Rattle.air_box.specs.declared.AirBox.{AirBox}
-use Rattle.air_box.specs.declared.AirBoxStep.{AirBoxStep}
-use Rattle.air_box.specs.declared.Refusal.{Refusal}
-use Rattle.trace.specs.Trace.{Trace, trace, next_record, after_record, over_limit}
+use Rattle.trace.specs.Trace.{Trace, trace, next_record, after_record}
 use Rattle.trace.specs.declared.Read.{Read}
 use Rattle.trace.specs.declared.Record.{Record}
 use Rattle.trace.specs.declared.TraceRefusal.{TraceRefusal}
 use Rattle.trace.proofs.ReadsOn.{reads_on_at}
-use Rattle.trace_run.specs.TraceRun.{Accepted, Run, named_box, record_tick, stopped, unless_over, answered, code, codes, run_records, run_trace, fresh_boxes, end_number, outcome, buffer}
+use Rattle.trace_run.specs.TraceRun.{Accepted, named_box, code, codes, run_trace, fresh_boxes, outcome, buffer}
 use Rattle.trace_run.specs.declared.Outcome.{Outcome}
 use Rattle.trace_run.proofs.Limits.{settings_within}
 use Rattle.trace_run.proofs.Running.{Stands, accepted_in_time}
+use Rattle.trace_run.proofs.EachRecord.{OfRuns, Holds, of_every_run, however_it_stops}
 use Rattle.replay.specs.Replay.{code_line, code_lines, last_line, lines_left, run_text}
 
 -- ---- line by line
@@ -54,38 +49,25 @@ no_line bytes position time codes r e none =
 -- ---- all of it
 
 -- the accepted records are the first, at the sums of their steps, which no accepted time lets wrap
-lines_of : (ended : ℕ) (rs : List Record) (time : ℕ) (boxes : List AirBox) (room : ℕ) → time ≤ 2147483648
-    → lines_left time rs (codes (run_records ended rs time boxes room)) ≡ code_lines (run_records ended rs time boxes room).accepted
-unfolding run_records lines_left code_lines
-lines_of ended [] time boxes room h = refl
-lines_of ended (r ∷ rest) time boxes room h =
-    go (over_limit r) refl (eqb room 0) step.answer refl (λ k. lines_of ended rest (time + r.seconds) (set boxes r.box_number step.state) (room - 1) k)
-  where
-    step : AirBoxStep
-    step = tick (named_box boxes r) (record_tick r (time + r.seconds))
+LinesOf : OfRuns
+LinesOf rs box_before time boxes room run = time ≤ 2147483648 → lines_left time rs (codes run) ≡ code_lines run.accepted
 
-    after : Run
-    after = run_records ended rest (time + r.seconds) (set boxes r.box_number step.state) (room - 1)
-
-    go : (over : Option TraceRefusal) → over_limit r ≡ over → (full : Bool) (a : Result ControllerOutput Refusal) → step.answer ≡ a
-        → (time + r.seconds ≤ 2147483648 → lines_left (time + r.seconds) rest (codes after) ≡ code_lines after.accepted)
-        → lines_left time (r ∷ rest) (codes (unless_over over (if full then stopped 26 else answered a r (time + r.seconds) after)))
-        ≡ code_lines (unless_over over (if full then stopped 26 else answered a r (time + r.seconds) after)).accepted
-    go (Some refusal) o full a e more = refl
-    go None o true a e more = refl
-    go None o false (Err reason) e more = refl
-    go None o false (Ok output) e more =
-        let within = settings_within r o in
-        let in_time = accepted_in_time (named_box boxes r) r (time + r.seconds) output (omega (arith, h, within.step)) e in
-        let same : (time + r.seconds) % 2 ^ 64 ≡ time + r.seconds = mod-eq_of_lt (omega (arith, in_time)) in
-        ap (λ n. code_line n r.box_number (code output) ++ lines_left n rest (codes after)) same
-        ∙ ap (λ l. code_line (time + r.seconds) r.box_number (code output) ++ l) (more in_time)
+lines_of : (ended : ℕ) → Holds ended LinesOf
+unfolding LinesOf lines_left code_lines
+lines_of ended =
+    however_it_stops ended LinesOf (λ rs box_before time boxes room number h. refl)
+    (λ r rest box_before time boxes room output o l f e after more h.
+    let within = settings_within r o in
+    let in_time = accepted_in_time (named_box boxes r) r (time + r.seconds) output (omega (arith, h, within.step)) e in
+    let same : (time + r.seconds) % 2 ^ 64 ≡ time + r.seconds = mod-eq_of_lt (omega (arith, in_time)) in
+    ap (λ n. code_line n r.box_number (code output) ++ lines_left n rest (codes after)) same
+    ∙ ap (λ l. code_line (time + r.seconds) r.box_number (code output) ++ l) (more in_time))
 
 pub all_lines : (bytes : List ℕ) (second_reading : Bool) (room : ℕ)
     → lines_left 0 (trace bytes).records (codes (run_trace bytes second_reading room)) ≡ code_lines (run_trace bytes second_reading room).accepted
-unfolding run_trace
+unfolding run_trace LinesOf
 all_lines bytes second_reading room =
-    lines_of (end_number (trace bytes).refusal) (trace bytes).records 0 (fresh_boxes second_reading) room (omega arith)
+    of_every_run _ LinesOf (lines_of _) (trace bytes).records None 0 (fresh_boxes second_reading) room (omega arith)
 
 -- what the run gives is what its text is made of
 pub start_text : (bytes : List ℕ) (second_reading : Bool) (before now : List ℕ) (o : Outcome)

@@ -1,5 +1,10 @@
+pub mod EachRecord
+pub mod FirstRecords
 pub mod Limits
+pub mod Numbers
+pub mod OldTraces
 pub mod OneBox
+pub mod OneSecond
 pub mod Running
 pub mod SensorCodes
 pub mod SmallTraces
