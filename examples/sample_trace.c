@@ -1,7 +1,7 @@
 /* Writes the sample trace of `replay`: five boxes for 25 minutes, each with a record a minute, twelve seconds after the box before it.
    Box 0 is sound. The duct of box 3 is blocked in minute 3, half freed in minute 12 and freed in minute 18. Box 7 measures flow with its fan off from
    minute 2 to minute 20. The damper of box 11 is told to close and leaks from minute 1 on. Box 15 is silent from minute 19 to minute 24, more than
-   240 seconds, so that its last record is refused.
+   240 seconds, so that its last record is refused. No two records share a second; if they did, their boxes would have to go by rising number.
    Build: gcc -O2 examples/sample_trace.c -o target/sample_trace
    Run:   target/sample_trace | cmp - crates/replay/stdin */
 #include <stdbool.h>

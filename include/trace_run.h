@@ -24,8 +24,11 @@
    The boxes. Each of the sixteen is a box of its own with a plain start, a design minimum of 0.5 and a cooling maximum of 1.5 cubic metres a second. All have
    the first reading of the airflow sensor alarm, or with `second_reading` all the second; air_box.h says how the two differ. A box's first record is its first
    tick, at which with a plain start a fault that seems to stand counts as having stood for long: its code shows at once. The time of a tick is the sum of the
-   seconds of all records up to its own; records of the same second may stand in any order. A box may begin late, but once it has begun two records of it are
-   at most 240 seconds apart.
+   seconds of all records up to its own. A box may begin late, but once it has begun two records of it are at most 240 seconds apart.
+
+   The order in one second. Records of the same second stand by rising box number, and a box stands at most once in a second: a record whose seconds are 0 has
+   a greater box number than the record before it. The first record has none before it and breaks nothing, whatever its seconds. Records of different seconds
+   may name their boxes in any order. So the same records at the same times are the same bytes.
 
    The run goes record by record until the trace ends or a record is refused. A refused record is not done: it has no code, its box is not ticked, and nothing
    after it is read. What was done before it stands, its codes among it.
@@ -75,7 +78,7 @@ extern "C" {
 #endif
 
 /* ---- The number with which a run ends. 20 and 21 are found as each number is read, in the order of a record's numbers: a fifth number that is damaged is 21,
-   whatever the box was. Only when all fourteen are read are 22 to 26 asked, in this order, and after them what a tick asks. */
+   whatever the box was. Only when all fourteen are read are 22 to 25, 27 and 26 asked, in this order, and after them what a tick asks. */
 #define TRACE_RUN_CLEAN_END 0           /* the trace ended at the end of a record; an empty one has 0 records and ends so */
 #define TRACE_RUN_ENDS_IN_RECORD 20     /* it ended inside a record, in a number or between two */
 #define TRACE_RUN_NUMBER_OUT_OF_FORM 21 /* a number is over 2^64 - 1, or its last group is a needless 0. A tenth group above 1, or with the high bit set, is
@@ -84,6 +87,7 @@ extern "C" {
 #define TRACE_RUN_FLAGS_OUT_OF_RANGE 23 /* the flags are above 7 */
 #define TRACE_RUN_SETTING_OUT_OF_RANGE 24 /* the mode or an override is above 255 */
 #define TRACE_RUN_STEP_OUT_OF_RANGE 25  /* the seconds are above 2,147,483,648 */
+#define TRACE_RUN_BOX_OUT_OF_ORDER 27   /* the seconds are 0, and the box is not above that of the record before. Never of the first record. Asked before 26 */
 #define TRACE_RUN_NO_ROOM 26            /* the buffer has no byte left for the code. Asked before the tick, whatever the tick would have said */
 
 /* The tick's own refusals, by the same numbers as in air_box.h. Its 1 and 3 do not come up: the time of a record is a whole number, and never goes back. */

@@ -1,6 +1,6 @@
 //! Traces whose codes and number are known by hand from the words of the documents.
 
-use crate::trace::{BOX, FLAGS, LAST_BOX, MODE, MOST_FLAGS, MOST_SETTING, MOST_STEP, NUMBERS, Record, SECONDS, ZONE};
+use crate::trace::{BOX, FLAGS, LAST_BOX, MODE, MOST_FLAGS, MOST_SETTING, MOST_STEP, NUMBERS, Record, SECONDS, ZONE, with};
 use crate::trace_bytes as bytes;
 
 /// A trace, the reading and the bytes of the buffer; the codes of the records done, and the number.
@@ -31,13 +31,6 @@ fn calm(air_box: u64, seconds: u64) -> Record {
     record
 }
 
-fn with<const N: usize>(mut record: Record, numbers: [(usize, u64); N]) -> Record {
-    for (place, number) in numbers {
-        record[place] = number;
-    }
-    record
-}
-
 fn flow(record: Record, flow: f64) -> Record {
     with(record, [(FLOW, flow.to_bits())])
 }
@@ -63,12 +56,12 @@ fn room(case: Case, room: usize) -> Case {
 }
 
 pub fn cases() -> Vec<Case> {
-    [ends(), numbers(), limits(), refused_at_once(), times(), readings(), codes()].into_iter().flatten().collect()
+    [ends(), numbers(), limits(), refused_at_once(), order(), times(), readings(), codes()].into_iter().flatten().collect()
 }
 
 /// Every trace of two records that ends early, and every buffer.
 fn ends() -> Vec<Case> {
-    let two = [calm(15, 60), calm(0, 0)];
+    let two = [calm(0, 60), calm(15, 0)];
     let whole = bytes::trace(&two);
     let first = bytes::trace(&two[..1]).len();
     let cut = |length: usize| {
@@ -158,9 +151,60 @@ fn refused_at_once() -> Vec<Case> {
     ]
 }
 
+/// Records of one second stand by rising box number, each box once; the first record breaks nothing.
+fn order() -> Vec<Case> {
+    let all: Vec<Record> = (0..=LAST_BOX).map(|air_box| calm(air_box, 0)).collect();
+    let mut cases: Vec<Case> = all.iter().map(|&first| case(&[first], &[0], 0)).collect();
+    cases.extend([
+        case(&all, &[0; 16], 0),
+        case(&[&all[..], &[calm(0, 1), calm(1, 0)]].concat(), &[0; 18], 0),
+        // a box twice, as neighbours and not
+        case(&[calm(9, 60), calm(9, 0)], &[0], 27),
+        case(&[calm(0, 0), calm(0, 0)], &[0], 27),
+        case(&[calm(3, 60), calm(9, 0), calm(3, 0)], &[0; 2], 27),
+        // a smaller box, of one that had no record and of one that had
+        case(&[calm(9, 60), calm(3, 0)], &[0], 27),
+        case(&[calm(15, 0), calm(0, 0)], &[0], 27),
+        case(&[calm(3, 60), calm(9, 60), calm(3, 0)], &[0; 2], 27),
+        // greater than the first of the second, and not than the one before
+        case(&[calm(3, 60), calm(9, 0), calm(5, 0)], &[0; 2], 27),
+        // of different seconds in any order
+        case(&[calm(15, 60), calm(9, 1), calm(3, 1), calm(5, 0), calm(5, 1), calm(5, 1)], &[0; 6], 0),
+        case(&[calm(9, MOST_STEP), calm(3, 0)], &[0], 27),
+    ]);
+    cases.extend(out_of_order_at_once());
+    cases
+}
+
+/// Out of order, and with other faults. A box above 15 is greater than the one before, and a step above 2,147,483,648 leads to another second: 22 and 25
+/// do not meet 27.
+fn out_of_order_at_once() -> Vec<Case> {
+    let nan = f64::NAN.to_bits();
+    let after_9 = |record: Record, number: u8| case(&[calm(9, 60), record], &[0], number);
+    let both = bytes::trace(&[calm(9, 60), calm(3, 0)]);
+    let damaged = spelled(calm(3, 0), AIRFLOW, vec![0x80, 0]);
+    vec![
+        after_9(calm(16, 0), 22),
+        after_9(with(calm(3, 0), [(FLAGS, 8), (MODE, 256)]), 23),
+        after_9(with(calm(3, 0), [(MODE, 256)]), 24),
+        after_9(with(calm(9, 0), [(DAMPER, 256)]), 24),
+        after_9(calm(3, MOST_STEP + 1), 25),
+        room(after_9(with(calm(3, 0), [(FLAGS, 8)]), 23), 1),
+        room(after_9(calm(3, 0), 27), 1),
+        room(after_9(calm(9, 0), 27), 1),
+        room(after_9(calm(10, 0), 26), 1),
+        room(after_9(calm(3, 1), 26), 1),
+        after_9(with(calm(3, 0), [(ZONE, nan), (CO2, nan), (FLOW, nan)]), 27),
+        // its box had no record for more than 240 s
+        case(&[calm(3, 0), calm(9, 241), calm(3, 0)], &[0; 2], 27),
+        bytes_case([bytes::trace(&[calm(9, 60)]), damaged].concat(), &[0], 21),
+        bytes_case(both[..both.len() - 1].to_vec(), &[0], 20),
+    ]
+}
+
 /// Times are sums over all boxes, and each box has its own last one.
 fn times() -> Vec<Case> {
-    let silent = |last| [calm(2, 7), calm(9, 120), calm(9, 0), calm(4, 60), calm(2, last)];
+    let silent = |last| [calm(2, 7), calm(9, 120), calm(15, 0), calm(4, 60), calm(2, last)];
     let half = MOST_STEP / 2;
     vec![
         case(&silent(60), &[0; 5], 0),
@@ -169,7 +213,6 @@ fn times() -> Vec<Case> {
         case(&[calm(0, half), calm(1, half), calm(2, 0), calm(3, 1)], &[0; 3], 2),
         case(&[calm(0, MOST_STEP), calm(1, MOST_STEP)], &[0], 2),
         case(&[calm(0, 100), calm(1, 100), calm(0, 140), calm(1, 101)], &[0; 3], 4),
-        case(&[calm(9, 60), calm(3, 0), calm(15, 0), calm(0, 0), calm(9, 0), calm(3, 0)], &[0; 6], 0),
     ]
 }
 
@@ -209,7 +252,7 @@ fn codes() -> Vec<Case> {
     let apart = [fan_off(day(0, 60)), windy, flow(fan_off(day(0, 1)), 0.3)];
     let all_apart: Vec<Record> = (0..=LAST_BOX)
         .map(|air_box| fan_off(day(air_box, 0)))
-        .chain((0..=LAST_BOX).map(|air_box| flow(fan_off(day(air_box, 0)), 0.3)))
+        .chain((0..=LAST_BOX).map(|air_box| flow(fan_off(day(air_box, u64::from(air_box == 0))), 0.3)))
         .collect();
     let second = |case: Case| Case { second: true, ..case };
     vec![

@@ -1,18 +1,19 @@
 //! Traces of generated nights: the ticks of several boxes by their times, whole and damaged.
 #![allow(dead_code)]
 
-use std::collections::VecDeque;
 use std::io;
+use std::ops::Range;
 
 use crate::dice::Dice;
 use crate::tick::{self, LAST_SECOND, Line, Tick};
-use crate::trace::{BOX, FLAGS, LAST_BOX, MODE, MOST_STEP, NUMBERS, Record, SECONDS, ZONE};
+use crate::trace::{BOX, FLAGS, LAST_BOX, MODE, MOST_STEP, NUMBERS, Record, SECONDS, ZONE, with};
 use crate::trace_bytes::{self as bytes, Spelled};
 
 /// The accepted ticks of a box from its start to its end. Mode and overrides are brought into the range of a trace.
 type Life = Vec<Tick>;
 
-/// The boxes of the lines on standard input. Of what size and start they are is left out.
+/// The boxes of the lines on standard input. Of what size and start they are is left out, and of several ticks in one second all but the first: in a
+/// trace a box stands at most once in a second.
 pub fn lives() -> io::Result<Vec<Life>> {
     let mut lives: Vec<Life> = vec![Vec::new()];
     let mut last = None;
@@ -26,7 +27,7 @@ pub fn lives() -> io::Result<Vec<Life>> {
             last = None;
             lives.push(Vec::new());
         }
-        if let Some(tick) = tick.filter(|tick| tick.refusal(last) == 0) {
+        if let Some(tick) = tick.filter(|tick| tick.refusal(last) == 0 && last != Some(tick.t)) {
             last = Some(tick.t);
             lives.last_mut().expect("a life").push(tick);
         }
@@ -43,10 +44,11 @@ pub struct Whole {
     pub starts: Vec<usize>,
 }
 
-/// The ticks that a box has yet to take, each with its time.
-struct Ahead {
+/// A tick of a box at its time in the trace.
+struct Placed {
+    time: u64,
     number: u64,
-    ticks: VecDeque<(u64, Tick)>,
+    tick: Tick,
 }
 
 fn record(air_box: u64, seconds: u64, tick: &Tick) -> Record {
@@ -71,7 +73,7 @@ impl Whole {
         Whole { records, bytes, starts }
     }
 
-    /// Some boxes, each with one life of at most so many ticks, by their times; those of the same second in any order. A box keeps the place of
+    /// Some boxes, each with one life of at most so many ticks, by their times, and in the same second by their numbers. A box keeps the place of
     /// its ticks on the grid of 120 s, as its samplers see it; but some traces end with the last second that is taken.
     pub fn of(dice: &mut Dice, lives: &[Life], most: usize) -> Whole {
         let count = dice.pick(&[1, 2, 3, 5, 16, 16]);
@@ -81,41 +83,32 @@ impl Whole {
             numbers.swap(place, other);
         }
         let base = 120 * dice.pick(&[0, 0, 1, 1000, 1 << 20]);
-        let mut ahead: Vec<Ahead> = numbers[..count].iter().map(|&number| Ahead::of(dice, lives, most, number, base)).collect();
+        let mut ticks: Vec<Placed> = numbers[..count].iter().flat_map(|&number| placed(dice, lives, most, number, base)).collect();
         if dice.one_in(8) {
-            let last = |ahead: &Ahead| ahead.ticks.back().map_or(0, |&(time, _)| time);
-            let later = LAST_SECOND as u64 - ahead.iter().map(last).max().unwrap_or(0);
-            ahead.iter_mut().flat_map(|ahead| ahead.ticks.iter_mut()).for_each(|(time, _)| *time += later);
+            let later = LAST_SECOND as u64 - ticks.iter().map(|placed| placed.time).max().unwrap_or(0);
+            ticks.iter_mut().for_each(|placed| placed.time += later);
         }
-        Whole::new(merged(dice, ahead))
+        Whole::new(merged(ticks))
     }
 }
 
-impl Ahead {
-    fn of(dice: &mut Dice, lives: &[Life], most: usize, number: u64, base: u64) -> Ahead {
-        let life = &lives[dice.below(lives.len() as u64) as usize];
-        let first = life[0].t;
-        let base = base + (first % 120.0) as u64 + 120 * dice.pick(&[0, 0, 0, 1, 10]);
-        Ahead { number, ticks: life.iter().take(most).map(|tick| (base + (tick.t - first) as u64, *tick)).collect() }
-    }
-
-    fn next(&self) -> u64 {
-        self.ticks.front().map_or(u64::MAX, |&(time, _)| time)
-    }
+/// The first ticks of a life, as those of a box of this number.
+fn placed(dice: &mut Dice, lives: &[Life], most: usize, number: u64, base: u64) -> Vec<Placed> {
+    let life = &lives[dice.below(lives.len() as u64) as usize];
+    let first = life[0].t;
+    let base = base + (first % 120.0) as u64 + 120 * dice.pick(&[0, 0, 0, 1, 10]);
+    life.iter().take(most).map(|tick| Placed { time: base + (tick.t - first) as u64, number, tick: *tick }).collect()
 }
 
-fn merged(dice: &mut Dice, mut ahead: Vec<Ahead>) -> Vec<Record> {
-    let (mut records, mut now) = (Vec::new(), 0);
-    let mut first: Vec<usize> = Vec::new();
-    loop {
-        let time = ahead.iter().map(Ahead::next).min().unwrap_or(u64::MAX);
-        first.clear();
-        first.extend((0..ahead.len()).filter(|&place| ahead[place].next() == time));
-        let from = &mut ahead[dice.pick(&first)];
-        let Some((_, tick)) = from.ticks.pop_front() else { return records };
-        records.push(record(from.number, time - now, &tick));
-        now = time;
-    }
+fn merged(mut ticks: Vec<Placed>) -> Vec<Record> {
+    ticks.sort_by_key(|placed| (placed.time, placed.number));
+    let mut now = 0;
+    let record_of = |placed: &Placed| {
+        let seconds = placed.time - now;
+        now = placed.time;
+        record(placed.number, seconds, &placed.tick)
+    };
+    ticks.iter().map(record_of).collect()
 }
 
 /// A number beyond a limit, just beyond or far.
@@ -167,9 +160,46 @@ impl Whole {
         while dice.one_in(3) {
             spoil(dice, record, &mut numbers);
         }
-        let after = &self.bytes[self.starts[at + 1]..];
+        self.replaced(dice, at..at + 1, &numbers.concat())
+    }
+
+    /// The trace with these bytes in place of some records, and some of the records after them.
+    fn replaced(&self, dice: &mut Dice, places: Range<usize>, bytes: &[u8]) -> Vec<u8> {
+        let after = &self.bytes[self.starts[places.end]..];
         let kept = if dice.one_in(3) { 0 } else { after.len().min(400) };
-        [&self.bytes[..self.starts[at]], &numbers.concat(), &after[..kept]].concat()
+        [&self.bytes[..self.starts[places.start]], bytes, &after[..kept]].concat()
+    }
+
+    /// The trace with a record out of the order in its second, or what may be one, and the count of records before it. In half of them it has other
+    /// faults as well.
+    pub fn disordered(&self, dice: &mut Dice) -> (Vec<u8>, usize) {
+        let (at, end) = self.neighbours(dice);
+        let (earlier, later) = (self.records[at], self.records[end - 1]);
+        let at_once = [(SECONDS, 0)];
+        let (first, second, end) = match dice.below(5) {
+            // the two change places, each at the time of the other
+            0..2 => (with(later, [(SECONDS, earlier[SECONDS])]), with(earlier, [(SECONDS, later[SECONDS])]), end),
+            // the later one in the second of the earlier, whichever box is the greater
+            2 => (earlier, with(later, at_once), end),
+            // a box twice in a second
+            3 => (earlier, with(earlier, at_once), at + 1),
+            // any box
+            _ => (earlier, with(with(later, at_once), [(BOX, dice.below(1 + LAST_BOX))]), end),
+        };
+        let mut numbers = bytes::record(&second);
+        while dice.one_in(2) {
+            spoil(dice, &second, &mut numbers);
+        }
+        let both = [bytes::record(&first), numbers].concat().concat();
+        (self.replaced(dice, at..end, &both), at + 1)
+    }
+
+    /// The place of a record and that past the one after it, mostly two of the same second; of the last record alone its own.
+    fn neighbours(&self, dice: &mut Dice) -> (usize, usize) {
+        let count = self.records.len();
+        let together: Vec<usize> = (1..count).filter(|&place| self.records[place][SECONDS] == 0).collect();
+        let at = if together.is_empty() || dice.one_in(3) { dice.below(count as u64) as usize } else { dice.pick(&together) - 1 };
+        (at, count.min(at + 2))
     }
 
     /// The trace with a byte changed, left out or put in, or a number with needless groups.

@@ -34,7 +34,7 @@ const TEXTS: Texts = texts!(plain, quiet, sized, sized_quiet, second, second_qui
 const AROUND: usize = 64;
 
 /// The numbers that a run can end with. The tick's 1 and 3 are none of them: the time of a trace is whole, and never goes back.
-const NUMBERS_MET: [usize; 13] = [0, 2, 4, 5, 6, 7, 20, 21, 22, 23, 24, 25, 26];
+const NUMBERS_MET: [usize; 14] = [0, 2, 4, 5, 6, 7, 20, 21, 22, 23, 24, 25, 26, 27];
 const CODES: [usize; 5] = [0, 12, 13, 23, 34];
 const NANS: [&str; 4] = ["quiet", "signalling", "quiet, sign set", "signalling, sign set"];
 
@@ -42,7 +42,7 @@ const NANS: [&str; 4] = ["quiet", "signalling", "quiet, sign set", "signalling, 
 struct Tally {
     traces: u64,
     records: u64,
-    numbers: [[u64; 27]; 2],
+    numbers: [[u64; 28]; 2],
     codes: [[u64; 35]; 2],
     /// NaNs of each kind among the readings that a record was refused for, with 5, 6 and 7.
     nans: [[u64; 3]; 4],
@@ -51,7 +51,7 @@ struct Tally {
 }
 
 const NOTHING: Tally =
-    Tally { traces: 0, records: 0, numbers: [[0; 27]; 2], codes: [[0; 35]; 2], nans: [[0; 3]; 4], rooms: [0; 4] };
+    Tally { traces: 0, records: 0, numbers: [[0; 28]; 2], codes: [[0; 35]; 2], nans: [[0; 3]; 4], rooms: [0; 4] };
 
 struct Comparison {
     tally: Tally,
@@ -150,6 +150,11 @@ impl Comparison {
             if records <= 3 {
                 self.cut_everywhere(&spoilt, more)?;
             }
+        }
+        for _ in 0..6 {
+            let (disordered, before) = whole.disordered(dice);
+            let room = dice.pick(&[more, more, before, before, before - 1]);
+            self.compare(&disordered, dice.one_in(2), room)?;
         }
         if records <= 3 {
             self.cut_everywhere(&whole.bytes, records)?;

@@ -14,7 +14,7 @@ enum { ROOM = 65536, MARK = 0xd3 };
 static uint8_t *trace_end, *codes_end;
 static uint8_t trace[ROOM], codes[ROOM];
 static size_t trace_length;
-static unsigned long runs, seen[TRACE_RUN_NO_ROOM + 1];
+static unsigned long runs, seen[TRACE_RUN_BOX_OUT_OF_ORDER + 1];
 static size_t stack_taken;
 
 /* The run under way, and what it gives. */
@@ -74,7 +74,7 @@ static const char *take(char *line) {
     int read = 0;
     if (sscanf(line, "run %zu %u %zu %zu %u %n", &length, &reading, &room, &done, &number, &read) != 5 || read == 0) return "neither a trace nor a run";
     if (!bytes_of(line + read, codes, &count) || count != done || done > room || room > ROOM || length > trace_length) return "no run of that trace";
-    if (reading < 1 || reading > 2 || number > TRACE_RUN_NO_ROOM) return "no reading or no number";
+    if (reading < 1 || reading > 2 || number > TRACE_RUN_BOX_OUT_OF_ORDER) return "no reading or no number";
     second = reading == 2;
     return run(done, number);
 }
@@ -85,7 +85,7 @@ static int failed(const char *what, unsigned long line) {
 }
 
 int main(int count, char **arguments) {
-    static const unsigned met[] = {0, 2, 4, 5, 6, 7, 20, 21, 22, 23, 24, 25, 26};
+    static const unsigned met[] = {0, 2, 4, 5, 6, 7, 20, 21, 22, 23, 24, 25, 26, 27};
     char *text = NULL;
     size_t text_room = 0;
     unsigned long line = 0;
