@@ -3,7 +3,7 @@
 // A read or a write that fails ends the program and is told on standard error, with the system's reason.
 #![tactic(auto)]
 
-ghost use Rattle.std.specs.Prelude.{◌≡◌, ◌≤◌, ◌<◌, ◌+◌, ◌++◌, false, true, IfOk, length};
+ghost use Rattle.std.specs.Prelude.{◌≡◌, ◌≤◌, ◌<◌, ◌+◌, ◌++◌, false, true, length};
 ghost use Rattle.arrayvec.specs.ArrayVec.{array_vec_len};
 ghost use Rattle.trace_run.specs.TraceRun.{run_trace};
 ghost use Rattle.text_pieces.specs.TextPieces.{decimal_text};
@@ -77,7 +77,7 @@ fn replay_in<const N: usize, const M: usize>(
     room: &mut [u8; N],
     codes: &mut [u8; M],
 ) -> Result<(), Failure> {
-    let size = read_to_end(rt, room).map_err(Failure::Read)?;
+    let size = streams::read_to_end(rt, room).map_err(Failure::Read)?;
     if size == N {
         return write(rt, too_large_text(ROOM as u64).as_slice());
     }
@@ -107,21 +107,6 @@ fn is_second_reading(rt: HostRuntime) -> Result<bool, Failure> {
         Some(word) if word.as_str() == "--second-reading" && words.next().is_none() => Ok(true),
         _ => Err(Failure::Usage),
     }
-}
-
-// Reads to the end of the input, or until the room is full, and answers how many bytes.
-fn read_to_end(rt: HostRuntime, room: &mut [u8]) -> io::Result<usize>
-    ensures { IfOk result (λ size. size ≤ length room.new) }
-{
-    let mut size = 0;
-    while size < room.len() {
-        let got = streams::read_some(rt, &mut room[size..])?;
-        if got == 0 {
-            break;
-        }
-        size += got;
-    }
-    Ok(size)
 }
 
 // What is left to make of a run's text. It goes through the accepted records once more, for their times and boxes.

@@ -2,7 +2,7 @@
 // Nothing says that a stream ends or takes what it is given, so turns are counted up to a number that no run reaches.
 #![tactic(auto)]
 
-ghost use Rattle.std.specs.Prelude.{◌≤◌, ◌≢◌, IfErr, length};
+ghost use Rattle.std.specs.Prelude.{◌≤◌, ◌≢◌, IfErr, IfOk, length};
 ghost use Rattle.std.specs.Io.{ReadsAtMost};
 ghost use Rattle.std.specs.IoError.{error_kind};
 
@@ -42,6 +42,21 @@ pub fn read_some(rt: HostRuntime, room: &mut [u8]) -> io::Result<usize>
         }
     }
     Err(io::Error::from(ErrorKind::Interrupted))
+}
+
+// Reads to the end of the input, or until the room is full, and answers how many bytes.
+pub fn read_to_end(rt: HostRuntime, room: &mut [u8]) -> io::Result<usize>
+    ensures { IfOk result (λ size. size ≤ length room.new) }
+{
+    let mut size = 0;
+    while size < room.len() {
+        let got = read_some(rt, &mut room[size..])?;
+        if got == 0 {
+            break;
+        }
+        size += got;
+    }
+    Ok(size)
 }
 
 // Writes the bytes. Where that fails, so many at their end were not written. A write that takes no byte would take none for ever.

@@ -1,4 +1,5 @@
 pub mod EachRecord
+pub mod EveryRun
 pub mod FirstRecords
 pub mod Limits
 pub mod Numbers

@@ -1,6 +1,6 @@
 -- What is read stands in the room, and each turn reads more.
 use Rattle.std.proofs.Common.{◌≤◌, ◌-◌, length}
-use Rattle.replay.proofs.read_to_end.Given as goal
+use Rattle.streams.proofs.read_to_end.Given as goal
 
 abbrev pub invariant-loop-size : goal.invariant-loop-size
 invariant-loop-size l = l.size ≤ length l.room
