@@ -1,0 +1,10 @@
+pub mod LowestTerms
+pub mod Sums
+pub mod Average
+pub mod Boxes
+pub mod NightRun
+pub mod ExactAverages
+pub mod Outcomes
+pub mod SmallNights
+pub mod Loops
+pub mod Texts
