@@ -1,5 +1,6 @@
 /* Loaded before the C library, makes standard input and output fail as FAULTS says, a word and a number:
    interrupted 0     every second read and write is interrupted or would block, the others move at most 1,000 bytes
+   short N           a read and a write move at most N bytes
    read N, write N   the first N bytes are read or written, and from there on every call fails with EIO
    zero N            the first N bytes are written, and from there on no write takes a byte, or fails
    close 0           what was written is lost as late as at the end: fsync fails with EIO, and so does the close of standard output */
@@ -32,6 +33,7 @@ static size_t allowed(const char *word, size_t n, size_t done) {
         errno = calls % 4 == 1 ? EINTR : EAGAIN;
         return calls % 2 == 1 ? 0 : n < 1000 ? n : 1000;
     }
+    if (told("short", &number)) return n < number ? n : number;
     if (!told(word, &number)) return n;
     errno = EIO;
     return n < number - done ? n : number - done;
