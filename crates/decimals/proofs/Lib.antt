@@ -1,0 +1,11 @@
+pub mod BitsGiven
+pub mod ClosestWhole
+pub mod NearestReading
+pub mod NoTie
+pub mod OnlyDecimal
+pub mod ReadingIsNearest
+pub mod RoundedNearest
+pub mod ShortestDecimal
+pub mod SignAndSize
+pub mod SmallReadings
+pub mod Steps

@@ -1,0 +1,4 @@
+pub mod Decimals
+pub mod NearestReading
+pub mod ShortestDecimal
+pub mod SmallReadings
