@@ -16,7 +16,7 @@ use Rattle.trace.specs.declared.TraceRefusal.{TraceRefusal}
 use Rattle.trace.proofs.ReadsOn.{reads_on_at}
 use Rattle.trace_run.specs.TraceRun.{Accepted, named_box, code, codes, run_trace, fresh_boxes, outcome, buffer}
 use Rattle.trace_run.specs.declared.Outcome.{Outcome}
-use Rattle.trace_run.proofs.Limits.{settings_within}
+use Rattle.trace.proofs.Limits.{settings_within}
 use Rattle.trace_run.proofs.Running.{Stands, accepted_in_time}
 use Rattle.trace_run.proofs.EachRecord.{OfRuns, Holds, of_every_run, however_it_stops}
 use Rattle.replay.specs.Replay.{code_line, code_lines, last_line, lines_left, run_text}

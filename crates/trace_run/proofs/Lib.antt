@@ -1,7 +1,7 @@
+pub mod Casts
 pub mod EachRecord
 pub mod EveryRun
 pub mod FirstRecords
-pub mod Limits
 pub mod Numbers
 pub mod OldTraces
 pub mod OneBox

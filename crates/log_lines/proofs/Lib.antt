@@ -1,0 +1,14 @@
+pub mod AllowedDecimals
+pub mod FieldsInTurn
+pub mod FirstPart
+pub mod HeldDigits
+pub mod HeldReading
+pub mod HeldRecord
+pub mod LineAnswers
+pub mod LineBack
+pub mod NoLine
+pub mod Parts
+pub mod ReadingBack
+pub mod SmallLines
+pub mod WrittenDigits
+pub mod WrittenLines

@@ -1,0 +1,9 @@
+// Converts a text log on standard input to a trace on standard output (document 02, N6), as `conversion_filter` says.
+#![tactic(auto)]
+
+use conversion_filter::Direction;
+use std::process::ExitCode;
+
+fn main(rt: HostRuntime) -> ExitCode {
+    conversion_filter::run(rt, Direction::ToTrace)
+}
