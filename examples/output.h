@@ -8,13 +8,13 @@
 #include <string.h>
 
 /* What could not be done, and why, on standard error. The status is for main to return. */
-static int cannot(const char *program, const char *what) {
+static inline int cannot(const char *program, const char *what) {
     fprintf(stderr, "%s: cannot %s: %s\n", program, what, strerror(errno));
     return 1;
 }
 
 /* printf, and whether it was written as far as can be told yet. */
-static bool put(const char *format, ...) {
+static inline bool put(const char *format, ...) {
     va_list rest;
     va_start(rest, format);
     int written = vprintf(format, rest);
@@ -23,7 +23,7 @@ static bool put(const char *format, ...) {
 }
 
 /* The last of the output. Of a file on another machine only this may tell that it was lost. */
-static bool close_output(void) {
+static inline bool close_output(void) {
     return fclose(stdout) == 0;
 }
 #endif

@@ -2,27 +2,11 @@
    `replay` does. A trace of any length is taken. With an argument all boxes have the second reading of the airflow sensor alarm.
    Build: gcc -O2 -Iinclude examples/trace_codes.c target/staticlib/libtrace_run_c.a -o target/trace_codes
    Run: target/trace_codes <crates/replay/stdin */
-#include <stdlib.h>
+#include "input.h"
 #include "output.h"
 #include "trace_run.h"
 
-enum { FIRST_ROOM = 65536, LEAST_RECORD = 14 };
-
-/* All of standard input, or NULL where it cannot be read. */
-static uint8_t *read_all(size_t *length) {
-    uint8_t *bytes = NULL;
-    size_t room = 0;
-    for (*length = 0; !feof(stdin) && !ferror(stdin); *length += fread(bytes + *length, 1, room - *length, stdin)) {
-        if (*length < room) continue;
-        room = room == 0 ? FIRST_ROOM : 2 * room;
-        uint8_t *more = realloc(bytes, room);
-        if (more == NULL) break;
-        bytes = more;
-    }
-    if (feof(stdin) && !ferror(stdin)) return bytes;
-    free(bytes);
-    return NULL;
-}
+enum { LEAST_RECORD = 14 };
 
 int main(int count, char **arguments) {
     (void)arguments;

@@ -1,16 +1,18 @@
 //! `speed FILE ROUNDS [port|rust]`: runs the accepted ticks of FILE by the port's archive and by the published Rust, in one
 //! run, and prints the time a tick of each. With a third word only that side runs, for a count of its instructions.
 
-use std::{env, fs, hint::black_box, time::Instant};
+use std::{env, fs};
 
 mod answer;
 mod fields;
+mod passes;
 mod port;
 mod reckoning;
 mod stubs;
 mod tick;
 
 use answer::Answer;
+use passes::quickest;
 use port::AirBoxTick;
 use tick::{Line, Tick};
 
@@ -85,20 +87,6 @@ fn run_rust(ticks: &[Accepted]) -> u64 {
     sum
 }
 
-/// Nanoseconds a tick of one pass.
-fn time(run: fn(&[Accepted]) -> u64, ticks: &[Accepted]) -> f64 {
-    let start = Instant::now();
-    black_box(run(black_box(ticks)));
-    start.elapsed().as_nanos() as f64 / ticks.len() as f64
-}
-
-/// The quickest pass of each side, the two taking turns.
-fn quickest(ticks: &[Accepted], rounds: usize) -> (f64, f64) {
-    (0..rounds).fold((f64::MAX, f64::MAX), |(port, rust), _| {
-        (port.min(time(run_port, ticks)), rust.min(time(run_rust, ticks)))
-    })
-}
-
 fn main() {
     let words: Vec<String> = env::args().collect();
     let ticks = accepted(&fs::read(&words[1]).expect("the file of ticks"));
@@ -108,7 +96,7 @@ fn main() {
         Some("rust") => println!("{} ticks, digest {:016x}", ticks.len(), run_rust(&ticks)),
         _ => {
             assert_eq!(run_port(&ticks), run_rust(&ticks), "the two sides differ");
-            let (port, rust) = quickest(&ticks, rounds);
+            let [port, rust] = quickest([run_port, run_rust], &ticks, rounds).map(|best| best / ticks.len() as f64);
             println!("{} accepted ticks, the same outputs", ticks.len());
             println!("port {port:.0} ns a tick, published Rust {rust:.0} ns a tick, ratio {:.2}", rust / port);
         }

@@ -64,7 +64,7 @@ fn record(air_box: u64, seconds: u64, tick: &Tick) -> Record {
 }
 
 impl Whole {
-    fn new(records: Vec<Record>) -> Whole {
+    pub fn new(records: Vec<Record>) -> Whole {
         let (mut bytes, mut starts) = (Vec::new(), vec![0]);
         for record in &records {
             bytes.extend(bytes::record(record).concat());

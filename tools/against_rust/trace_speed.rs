@@ -2,11 +2,12 @@
 //! Rust, in one program, and beside it the parts: reading alone and ticking alone. Prints the time a record of each. With a side only that is run
 //! once, for a count of its instructions, and the count of records is printed.
 
-use std::{env, hint::black_box, time::Instant};
+use std::{env, hint::black_box};
 
 mod answer;
 mod dice;
 mod fields;
+mod passes;
 mod port;
 mod reckoning;
 mod stubs;
@@ -18,6 +19,7 @@ mod trace_port;
 
 use answer::{AirBox, Answer, Texts, texts};
 use dice::Dice;
+use passes::quickest;
 use port::AirBoxTick;
 use tick::Tick;
 use trace::{BOX, LAST_BOX, Reader, Record, SECONDS};
@@ -130,13 +132,6 @@ const SIDES: [(&str, Side); 5] = [
     ("port_ticks", port_ticks),
 ];
 
-/// Nanoseconds of one pass.
-fn time(side: Side, nights: &[Night]) -> f64 {
-    let start = Instant::now();
-    black_box(side(black_box(nights)));
-    start.elapsed().as_nanos() as f64
-}
-
 fn nights(seed: u64, records: usize) -> Vec<Night> {
     let lives = trace_nights::lives().expect("the lines of a night");
     let mut dice = Dice::new(seed);
@@ -151,12 +146,7 @@ fn nights(seed: u64, records: usize) -> Vec<Night> {
 
 fn print_times(nights: &[Night], rounds: usize) {
     let [records, bytes] = [|night: &Night| night.rust.len(), |night: &Night| night.trace.len()].map(|of| nights.iter().map(of).sum::<usize>() as f64);
-    let mut best = [f64::MAX; SIDES.len()];
-    for _ in 0..rounds {
-        for (best, (_, side)) in best.iter_mut().zip(SIDES) {
-            *best = best.min(time(side, nights));
-        }
-    }
+    let best = quickest(SIDES.map(|(_, side)| side), nights, rounds);
     for ((name, _), best) in SIDES.iter().zip(best) {
         println!("{name}: {:.0} ns a record, {:.2} million records and {:.0} million bytes a second", best / records, 1e3 * records / best, 1e3 * bytes / best);
     }

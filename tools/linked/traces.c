@@ -4,13 +4,10 @@
    The argument is the most bytes of stack that a run may take; more ends with status 1. */
 #define _DEFAULT_SOURCE
 #include <stdio.h>
-#include <sys/mman.h>
-#include <sys/types.h>
-#include <unistd.h>
+#include "guarded.h"
 #include "painted_stack.h"
 #include "trace_run.h"
 
-enum { ROOM = 65536, MARK = 0xd3 };
 static uint8_t *trace_end, *codes_end;
 static uint8_t trace[ROOM], codes[ROOM];
 static size_t trace_length;
@@ -23,29 +20,6 @@ static bool second;
 static TraceRunOutcome outcome;
 
 static void one_run(void) { outcome = trace_run(trace_end - length, length, second, codes_end - room, room); }
-
-/* ROOM bytes before a page that may not be touched; where they end, or NULL. */
-static uint8_t *room_end(void) {
-    size_t page = (size_t)sysconf(_SC_PAGESIZE);
-    uint8_t *at = mmap(NULL, ROOM + page, PROT_READ | PROT_WRITE, MAP_PRIVATE | MAP_ANONYMOUS, -1, 0);
-    return at == MAP_FAILED || mprotect(at + ROOM, page, PROT_NONE) != 0 ? NULL : at + ROOM;
-}
-
-static int hex_value(char c) {
-    return c >= '0' && c <= '9' ? c - '0' : c >= 'a' && c <= 'f' ? c - 'a' + 10 : -1;
-}
-
-/* The bytes of a word of hex digits into `bytes`; whether it is such a word. */
-static bool bytes_of(const char *word, uint8_t *bytes, size_t *length) {
-    *length = 0;
-    if (strcmp(word, "-") == 0) return true;
-    for (; word[0] != '\0'; word += 2) {
-        int high = hex_value(word[0]), low = high < 0 ? -1 : hex_value(word[1]);
-        if (low < 0 || *length == ROOM) return false;
-        bytes[(*length)++] = (uint8_t)(high * 16 + low);
-    }
-    return true;
-}
 
 /* Runs the first `length` bytes of the trace with this much room; what is wrong with what it gives, or NULL. */
 static const char *run(size_t done, unsigned number) {
