@@ -3,7 +3,8 @@
 // A refusal, and a read or a write that fails, is told on standard error, and then the status is not 0.
 #![tactic(auto)]
 
-ghost use Rattle.std.specs.Prelude.{◌≡◌, length};
+ghost use Rattle.std.specs.Prelude.{◌≡◌, ◌≤◌, length};
+ghost use Rattle.std.specs.Process.{exit_status};
 ghost use Rattle.text_log.specs.Conversion as Conversion;
 ghost use Rattle.conversion_filter.specs.Filter as Filter;
 ghost use Rattle.conversion_filter.specs.Filter.{conversion};
@@ -163,7 +164,9 @@ fn refusal_words(number: u8) -> &'static str
 }
 
 // The program of the direction, and the status with which it ends: 0 where all of the input is converted and nothing failed.
-pub fn run(rt: HostRuntime, direction: Direction) -> ExitCode {
+pub fn run(rt: HostRuntime, direction: Direction) -> ExitCode
+    ensures { exit_status result ≤ 1 }
+{
     let mut status = ExitCode::SUCCESS;
     if let Err(failure) = filter(rt, direction) {
         let _ = eprintln!(rt; "{failure}");
