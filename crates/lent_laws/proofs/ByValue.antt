@@ -1,8 +1,10 @@
 -- Functions by value: the contract of one as a relation of the parameters and the result, and a call of it, over the list of its parameters.
 --     ByValue           the contract, and ByValue₂ that of two parameters
---     calls_by_value    the call
+--     calls_by_value, calls_by_value_last    the call, and one that is the last statement of an arm
 --     Stage             such a function of two parameters that returns a struct of two fields
+--     Question          such a function of two parameters that returns an enum of two variants, as a Result is
 use mathlib.Core.Path.{◌≡◌}
+use mathlib.Core.Logic.{◌⊎◌}
 use mathlib.Core.List.{[], ◌∷◌, List}
 use seplogic.Ra.Ura.{Ura}
 use mir.Syntax.{Callee, Place, Opd as Operand, Body as Code, seq, call}
@@ -13,7 +15,7 @@ use prog.Wp.{Env, Calls, Loops}
 use types.Logic.{Logic, sem}
 use contract.Monad.{fact}
 use types.Kit as Kit
-use types.Kit.{Go, Item, Sq, runs, lands, ‵, raw, ◌⊛◌, some, later, ◌$◌, !, move, drop, use0, use1, split, pick, await}
+use types.Kit.{Go, Goal, Item, Soaks, Sq, runs, lands, settles, ‵, raw, ◌⊛◌, some, later, ◌$◌, !, move, drop, use0, use1, split, pick, await}
 use types.Run.{Opds}
 use sound.WpLaws.{FmC}
 use denote.RattleType.{RattleType, Denots, Valss, flat}
@@ -21,13 +23,14 @@ use denote.Laws.{Is, Ises, Are, Spells, valss, Makess, owns_make, shows}
 use denote.Signature.{Slot, Signature, plain, types_at}
 use denote.Steps.{peeks, heard}
 use denote.Triple.Statement.{Contract, Triple}
-use denote.Triple.Call.{calls_at}
+use denote.Triple.Call.{calls_at, calls_at_last}
 use denote.Triple.Clauses.{Ended, Clauses, ensured, lasts, closing}
 use denote.Triple.End.{all}
 use denote.Triple.Spec.{triple_of}
 use denote.Exit.{yes}
 use denote.Struct.Declared.{Declared}
-use Rattle.lent_laws.proofs.PlainTypes.{Shape, row_of, PlainType, row, Data, Two, two_of, two_shape, TwoLaws}
+use denote.Enum.Declared as enum
+use Rattle.lent_laws.proofs.PlainTypes.{Shape, row_of, PlainType, row, Data, Two, two_of, two_shape, TwoLaws, Answer, answer_of, answer_shape, AnswerLaws}
 
 -- ---- a list of plain types
 
@@ -103,15 +106,25 @@ module _ (Ps : List PlainType) (R : Shape) (φ : Datas Ps → R.X → Type 0) {M
       (via 𝓤 (sep 𝓤 (emp 𝓤) (emp 𝓤)) (emp∗ 𝓤 (emp 𝓤)) (mono∗ 𝓤 (id⊢ 𝓤 (emp 𝓤)) (owns_make 𝓛 (rows Ps) (Ises (rows Ps)) (makes_all 𝓛 Ps) a (values Ps a) are)))
       (id⊢ 𝓤 (emp 𝓤)))
 
+  -- what came back, with what the clause says of it
+  comes_back : {Γ : List (Item 𝓤)} {G : Goal 𝓤 H} → Soaks G → (v : Val) → ((r : R.X) → φ a r → Is (row_of R) r (v ∷ []) → Sq 𝓛 (‵ (R.own r (v ∷ [])) ∷ Γ) G)
+      → Sq 𝓛 (raw ((ByValue Ps R φ 𝓛).post passed v) ∷ Γ) G
+  comes_back soaks v then =
+      use1 𝓛 (later (some (λ (r : R.X). (‵ ftrue ⊛ ‵ (R.own r (v ∷ []))) ⊛ raw (said Ps R φ 𝓛 a r)))) (id⊢ 𝓤 _) $ await ! soaks $ pick ! (λ r.
+      split ! $ move ! (1 ∷ []) $ use1 𝓛 (raw (fact 𝓤 (φ a r))) (clause_of Ps R φ 𝓛 a r) $ heard ! (φ a r) (λ e. split ! $ drop ! $
+      peeks ! (row_of R) (Is (row_of R)) (shows 𝓛 (row_of R)) r (v ∷ []) (λ is. then r e is)))
+
   pub calls_by_value : {C : Calls 𝓤 H} {Λ : Loops 𝓤 H} (fm : FmC 𝓤 H 𝓛.laws C) {k : Callee} → Triple 𝓤 (C k) (ByValue Ps R φ 𝓛)
       → {Γ : List (Item 𝓤)} {E : Env 𝓤 H} {q : Kit.Post 𝓤 H} {d : Place} {xs : List Operand} {rest : Code} → Opds (Go {0}) 𝓛 (passing ∷ Γ) E xs (flat (rows Ps) (values Ps a))
       → ((r : R.X) (v : Val) → φ a r → Is (row_of R) r (v ∷ []) → Sq 𝓛 (‵ (R.own r (v ∷ [])) ∷ Γ) (lands C Λ E d v rest q))
       → Sq 𝓛 Γ (runs C Λ E (seq (call k xs d) rest) q)
-  calls_by_value fm known os then =
-      use0 𝓛 passing goes_in $ calls_at ! fm (ByValue Ps R φ 𝓛) known passed os (λ v.
-      use1 𝓛 (later (some (λ (r : R.X). (‵ ftrue ⊛ ‵ (R.own r (v ∷ []))) ⊛ raw (said Ps R φ 𝓛 a r)))) (id⊢ 𝓤 _) $ await ! tt $ pick ! (λ r.
-      split ! $ move ! (1 ∷ []) $ use1 𝓛 (raw (fact 𝓤 (φ a r))) (clause_of Ps R φ 𝓛 a r) $ heard ! (φ a r) (λ e. split ! $ drop ! $
-      peeks ! (row_of R) (Is (row_of R)) (shows 𝓛 (row_of R)) r (v ∷ []) (λ is. then r v e is))))
+  calls_by_value fm known os then = use0 𝓛 passing goes_in $ calls_at ! fm (ByValue Ps R φ 𝓛) known passed os (λ v. comes_back tt v (λ r e is. then r v e is))
+
+  pub calls_by_value_last : {C : Calls 𝓤 H} {Λ : Loops 𝓤 H} (fm : FmC 𝓤 H 𝓛.laws C) {k : Callee} → Triple 𝓤 (C k) (ByValue Ps R φ 𝓛)
+      → {Γ : List (Item 𝓤)} {E : Env 𝓤 H} {q : Kit.Post 𝓤 H} {d : Place} {xs : List Operand} → Opds (Go {0}) 𝓛 (passing ∷ Γ) E xs (flat (rows Ps) (values Ps a))
+      → ((r : R.X) (v : Val) → φ a r → Is (row_of R) r (v ∷ []) → Sq 𝓛 (‵ (R.own r (v ∷ [])) ∷ Γ) (settles E d v q))
+      → Sq 𝓛 Γ (runs C Λ E (call k xs d) q)
+  calls_by_value_last fm known os then = use0 𝓛 passing goes_in $ calls_at_last ! fm (ByValue Ps R φ 𝓛) known passed os (λ v. comes_back tt v (λ r e is. then r v e is))
 
 -- ---- stages
 
@@ -128,3 +141,17 @@ stage_of P X Q Y T first second laws does name = record { gives = two_of Q Y T f
 
 abbrev pub StageMeets : (P X Q Y : PlainType) → Stage P X Q Y → {M : Type 1} {𝓤 : Ura M} (𝓛 : Logic 𝓤) → Contract 𝓤
 StageMeets P X Q Y s = ByValue₂ P X (two_shape Q Y s.gives) s.does
+
+-- a function by value of two parameters that returns an enum of two variants with a field each
+pub record Question (P X Q Y : PlainType) : Type 2 where
+  pub gives : Answer Q Y
+  pub laws : AnswerLaws Q Y gives
+  pub does : Data P → Data X → gives.X → Type 0
+  pub name : Callee
+
+-- by a declared enum T
+abbrev pub question_of : (P X Q Y : PlainType) (T : enum.Declared) (holds : T.D → Data Q ⊎ Data Y) → AnswerLaws Q Y (answer_of Q Y T holds) → (Data P → Data X → T.D → Type 0) → Callee → Question P X Q Y
+question_of P X Q Y T holds laws does name = record { gives = answer_of Q Y T holds; laws = laws; does = does; name = name }
+
+abbrev pub QuestionMeets : (P X Q Y : PlainType) → Question P X Q Y → {M : Type 1} {𝓤 : Ura M} (𝓛 : Logic 𝓤) → Contract 𝓤
+QuestionMeets P X Q Y s = ByValue₂ P X (answer_shape Q Y s.gives) s.does

@@ -11,37 +11,30 @@ use mathlib.Core.Path.{refl}
 use mathlib.Core.Bool.{not}
 use lib.Dec.{T, eqb}
 use Prim.Native.Nat.{ℕ}
-use mathlib.Core.List.{[], ◌∷◌, List}
+use mathlib.Core.List.{[], ◌∷◌}
 use seplogic.Ra.Ura.{Ura}
 use base.Fraction.{full_share}
 use mir.Syntax.{Fn, Body as Code, local, value_local, named, mut, imm, w8, ty_bool, ty_int, ty_ref, place, deref, field, copy, int, eq, op2, rv_opd, seq, assign, call, cond, skip, return}
 use mir.Raw.{raw as raw_ty}
 use mir.Val.{Val, vptr}
-use base.Logic.{SProp, ent, emp, via, fst∗}
-use base.Fml.{GName, Lft, Share, ftrue, flft, fobs, fbor, fat}
-use prog.Wp.{Env, Calls, Loops, WpFn, Tables}
+use base.Fml.{fat}
+use prog.Wp.{Env, WpFn, Tables}
 use types.Logic.{Logic}
-use contract.Monad.{fact}
-use types.Kit.{Item, at_ret, ‵, ◌⊛◌, ⋆, ◌$◌, ◌∵◌, !, qed, by, move, keep, drop, use1, split, join, fsplit, fsplit3, fjoin, fjoin3, feq_i, suffices, frame, rewrite, done}
+use types.Kit.{at_ret, ‵, ◌$◌, ◌∵◌, !, qed, by, move, keep, drop, use1, split, fsplit, fsplit3, rewrite}
 use types.Run.{lit, bin, look, look_raw, init, store_raw, forget, stop, hop, fld, from, load, and_then, no_more, of_opd, assigns, assigns_last, first, branches, exec, skips, land, returns, enter, alloc1, alloc0, params1, pass1, pass0, free1, free0}
 use types.Part.{whole, sub, look_in}
-use types.SemTy.{Body}
-use sound.WpLaws.{FmC, fm_of, WpFn-mono}
-use denote.RattleType.{owns}
+use sound.WpLaws.{FmC, fm_of}
 use denote.Laws.{Is, shows}
-use denote.Memory.{mem, pointee, hidden_shr}
-use denote.Ref.{MutBor, Bor, MutRef, ShrRef, mut_vals, shr_vals, mut_Tells, shr_Tells}
-use denote.Signature.{Signature, plain, mut_ref_to, shr_ref_to}
-use denote.Steps.{looks, shuts, opens, closes, owned, peeks, nothing}
+use denote.Memory.{pointee}
+use denote.Signature.{Signature}
+use denote.Steps.{looks, shuts, opens, closes, owned, peeks}
 use denote.Struct.Steps.{spelt}
 use denote.Triple.Statement.{Triple}
 use denote.Triple.Clauses.{Ended, Clauses, closing}
-use denote.Triple.Entry.{on_entry}
 use denote.Triple.Spec.{Meets}
-use denote.Triple.Walked.{says, Stays, stay_ref, stay_none_ref, walk_of, AllGo, Goes-none_ref, Goes-ref, ends_at, walked, walk_Meets}
-use denote.Exit.{yes}
 use Rattle.lent_laws.proofs.PlainTypes.{Shape, row_of, PlainType, of_u8, row, Data, two_shape, two_val, Five, five_shape, five_val, FiveLaws}
 use Rattle.lent_laws.proofs.ByValue.{lone_is, calls_by_value, Stage, StageMeets}
+use Rattle.lent_laws.proofs.OutRecord as Out
 use Rattle.lent_laws.proofs.RunPart.{runs_part, run_part}
 
 module _ (P₀ P₁ P₂ P₃ L I O X₀ X₁ X₂ X₃ X₄ : PlainType) (F : Five P₀ P₁ P₂ P₃ L) (FL : FiveLaws P₀ P₁ P₂ P₃ L F)
@@ -101,88 +94,15 @@ module _ (P₀ P₁ P₂ P₃ L I O X₀ X₁ X₂ X₃ X₄ : PlainType) (F : F
 
   -- code: end
 
+  -- the contract
   abbrev sig_out : Signature
-  sig_out = record {
-    lifetimes = 3;
-    outlives = [];
-    params = mut_ref_to (0 ∷ []) tt (plain (λ _. row_of R)) ∷ shr_ref_to (1 ∷ []) tt (plain (λ _. row I)) ∷ mut_ref_to (2 ∷ []) tt (plain (λ _. row O)) ∷ [];
-    result = plain (λ _. row of_u8);
-  }
+  sig_out = Out.sig_out R I O Fin
 
   abbrev ended_out : Ended
-  ended_out = record { signature = sig_out; kept = (yes, (yes, (yes, tt))) }
+  ended_out = Out.ended_out R I O Fin
 
   abbrev clauses_out : {M : Type 1} (𝓤 : Ura M) → Clauses 𝓤 ended_out
-  clauses_out 𝓤 = λ κs a. record {
-    ghost = Unit {0};
-    requires = λ _. emp 𝓤;
-    ensures = λ g r e. fact 𝓤 (Fin a.0.now a.1.0.now a.1.1.0.now e.0.now e.1.1.0.now r);
-  }
-
-  abbrev stayed_out : Stays sig_out.params ended_out.kept
-  stayed_out = (stay_ref (0 ∷ []) tt (plain (λ _. row_of R)), (stay_none_ref (1 ∷ []) tt (plain (λ _. row I)) yes, (stay_ref (2 ∷ []) tt (plain (λ _. row O)), tt)))
-
-  module _ {M : Type 1} {𝓤 : Ura M} (𝓛 : Logic 𝓤) (κ κ₁ κ₂ : Lft) (q q₁ q₂ : Share)
-      (b o : ℕ) (γ : GName) (h : F.X) (b₁ o₁ : ℕ) (i : Data I) (b₂ o₂ : ℕ) (γ₂ : GName) (w : Data O) where
-    open 𝓛 use {H}
-
-    abbrev x_out : MutBor F.X × (Bor (Data I) × (MutBor (Data O) × Unit {0}))
-    x_out = (record { ref_ptr = (b, o); ghost_name = γ; now = h }, (record { ref_ptr = (b₁, o₁); now = i }, (record { ref_ptr = (b₂, o₂); ghost_name = γ₂; now = w }, tt)))
-
-    abbrev at_out : List Val × (List Val × (List Val × Unit {0}))
-    at_out = (vptr b o ∷ [], (vptr b₁ o₁ ∷ [], (vptr b₂ o₂ ∷ [], tt)))
-
-    abbrev given_out : (walk_of 𝓛 ended_out stayed_out (clauses_out 𝓤)).Ghost
-    given_out = (((κ, (κ₁, (κ₂, tt))), (q, (q₁, (q₂, tt))), tt, x_out, at_out), tt)
-
-    abbrev Post_out : Val → SProp 𝓤
-    Post_out = (walk_of 𝓛 ended_out stayed_out (clauses_out 𝓤)).post given_out
-
-    -- what there is on entry: the lifetimes' tokens, and what the parameters own
-    abbrev out_entry : List (Item 𝓤)
-    out_entry = (‵ (flft κ q) ⊛ ‵ (flft κ₁ q₁) ⊛ ‵ (flft κ₂ q₂) ⊛ ‵ ftrue) ∷ ‵ (owns (MutRef (named 0) κ (row_of R) ∷ ShrRef (named 1) κ₁ (row I) ∷ MutRef (named 2) κ₂ (row O) ∷ []) x_out at_out) ∷ []
-
-    abbrev OutWalk : Calls 𝓤 H → Loops 𝓤 H → Type 1
-    OutWalk C Λ = ent 𝓤 (on_entry 𝓛 sig_out (κ, (κ₁, (κ₂, tt))) (q, (q₁, (q₂, tt))) x_out at_out) (WpFn 𝓤 H C Λ function_out (vptr b o ∷ vptr b₁ o₁ ∷ vptr b₂ o₂ ∷ []) Post_out)
-
-    -- exit: written by tools/walks/write
-    -- what is held at the end: the number, both records at their new values, and what came in
-    abbrev held_out : F.X → Data O → ℕ → List (Item 𝓤)
-    held_out h' w' n = ‵ ((row of_u8).own_val n (of_u8.val n ∷ []))
-        ∷ ‵ (fobs γ (R.coded.code h')) ∷ ‵ (fbor κ (Body (mem (row_of R)) b o γ))
-        ∷ ‵ (fobs γ₂ ((row O).coded.code w')) ∷ ‵ (fbor κ₂ (Body (mem (row O)) b₂ o₂ γ₂))
-        ∷ ‵ (flft κ q) ∷ ‵ (flft κ₁ q₁) ∷ ‵ (flft κ₂ q₂)
-        ∷ ‵ (hidden_shr (row I) κ₁ i b₁ o₁) ∷ []
-
-    exits_out : (h' : F.X) (w' : Data O) (n : ℕ) → Fin h i w h' w' n → ent 𝓤 (⋆ 𝓛 (held_out h' w' n)) (Post_out (of_u8.val n))
-    exits_out h' w' n e =
-        qed 𝓛 (held_out h' w' n) ∵
-        suffices ! _ (ends_at 𝓛 ended_out stayed_out (clauses_out 𝓤) given_out (of_u8.val n) n (h', (tt, (w', tt))) (tt, (tt, (tt, tt)))) $ says ! e $
-        nothing ! $ move ! (8 ∷ 0 ∷ []) $ join ! $ move ! (7 ∷ 0 ∷ []) $ join ! $ move ! (6 ∷ 0 ∷ []) $ join ! $ frame ! $
-        move ! (3 ∷ 4 ∷ []) $ feq_i ! (List Val) (vptr b₂ o₂ ∷ []) (vptr b₂ o₂ ∷ []) refl $ fjoin3 ! $
-        nothing ! $ move ! (1 ∷ 0 ∷ []) $ fjoin ! $
-        move ! (4 ∷ []) $ feq_i ! (List Val) (vptr b₁ o₁ ∷ []) (vptr b₁ o₁ ∷ []) refl $ fjoin ! $ fjoin ! $
-        move ! (2 ∷ 3 ∷ []) $ feq_i ! (List Val) (vptr b o ∷ []) (vptr b o ∷ []) refl $ fjoin3 ! $ fjoin ! $ done !
-    -- exit: end
-
-  module _ {M : Type 1} {𝓤 : Ura M} (𝓛 : Logic 𝓤) where
-    open 𝓛 use {H}
-
-    goes_out : AllGo 𝓛 3 sig_out.params ended_out.kept stayed_out
-    goes_out = (Goes-ref 𝓛 3 0 tt (plain (λ _. row_of R)), (Goes-none_ref 𝓛 3 (1 ∷ []) tt (plain (λ _. row I)) yes, (Goes-ref 𝓛 3 2 tt (plain (λ _. row O)), tt)))
-
-    -- the contract from a walk
-    out_meets : (𝓣 : Tables 𝓤 H)
-        → ((κ κ₁ κ₂ : Lft) (q q₁ q₂ : Share) (b o : ℕ) (γ : GName) (h : F.X) (b₁ o₁ : ℕ) (i : Data I) (b₂ o₂ : ℕ) (γ₂ : GName) (w : Data O) → OutWalk 𝓛 κ κ₁ κ₂ q q₁ q₂ b o γ h b₁ o₁ i b₂ o₂ γ₂ w 𝓣.C 𝓣.Λ)
-        → Meets 𝓛 sig_out (WpFn 𝓤 H 𝓣.C 𝓣.Λ function_out) (closing 𝓛 ended_out (clauses_out 𝓤))
-    out_meets 𝓣 walk = walk_Meets 𝓛 ended_out stayed_out goes_out (clauses_out 𝓤)
-        (WpFn 𝓤 H 𝓣.C 𝓣.Λ function_out) (WpFn-mono 𝓤 H 𝓛.laws 𝓣 function_out)
-        (walked 𝓛 ended_out stayed_out (clauses_out 𝓤) (WpFn 𝓤 H 𝓣.C 𝓣.Λ function_out)
-        (λ κs. (mut_vals, (shr_vals, (mut_vals, tt))))
-        (λ κs. (mut_Tells (named 0) κs.0 (row_of R), (shr_Tells (named 1) κs.1.0 (row I), (mut_Tells (named 2) κs.1.1.0 (row O), tt))))
-        (λ κs qs bounds a _ are. via 𝓤 _ (fst∗ 𝓤 _ (emp 𝓤)) (walk κs.0 κs.1.0 κs.1.1.0 qs.0 qs.1.0 qs.1.1.0
-        a.0.ref_ptr.0 a.0.ref_ptr.1 a.0.ghost_name a.0.now a.1.0.ref_ptr.0 a.1.0.ref_ptr.1 a.1.0.now
-        a.1.1.0.ref_ptr.0 a.1.1.0.ref_ptr.1 a.1.1.0.ghost_name a.1.1.0.now)))
+  clauses_out 𝓤 = Out.clauses_out R I O Fin 𝓤
 
   module _ {M : Type 1} {𝓤 : Ura M} (𝓛 : Logic 𝓤) (𝓣 : Tables 𝓤 𝓛.H)
       (known : Triple 𝓤 (𝓣.C ask.name) (StageMeets L I of_u8 X₀ ask 𝓛)) (known₀ : Triple 𝓤 (𝓣.C s₀.name) (StageMeets P₀ X₀ P₀ X₁ s₀ 𝓛))
@@ -199,10 +119,10 @@ module _ (P₀ P₁ P₂ P₃ L I O X₀ X₁ X₂ X₃ X₄ : PlainType) (F : F
     E l_result l_w l_i l_out l_a l_r₀ l_r₁ l_r₂ l_r₃ l_r₄ l_last l_input l_none l_part₀ l_handed₀ l_stored₀ l_part₁ l_handed₁ l_stored₁ l_part₂ l_handed₂ l_stored₂ l_part₃ l_handed₃ l_stored₃ l_part₄ l_handed₄ l_stored₄ l_output = (ty_int w8, l_result) ∷ (ty_ref (named 0) mut (pointee R.written), l_w) ∷ (ty_ref (named 1) imm (pointee I.shape.written), l_i) ∷ (ty_ref (named 2) mut (pointee O.shape.written), l_out) ∷ ((two_shape of_u8 X₀ ask.gives).τ, l_a) ∷ ((two_shape P₀ X₁ s₀.gives).τ, l_r₀) ∷ ((two_shape P₁ X₂ s₁.gives).τ, l_r₁) ∷ ((two_shape P₂ X₃ s₂.gives).τ, l_r₂) ∷ ((two_shape P₃ X₄ s₃.gives).τ, l_r₃) ∷ ((two_shape L O s₄.gives).τ, l_r₄) ∷ (L.shape.τ, l_last) ∷ (I.shape.τ, l_input) ∷ (ty_bool, l_none) ∷ (P₀.shape.τ, l_part₀) ∷ (X₀.shape.τ, l_handed₀) ∷ (P₀.shape.τ, l_stored₀) ∷ (P₁.shape.τ, l_part₁) ∷ (X₁.shape.τ, l_handed₁) ∷ (P₁.shape.τ, l_stored₁) ∷ (P₂.shape.τ, l_part₂) ∷ (X₂.shape.τ, l_handed₂) ∷ (P₂.shape.τ, l_stored₂) ∷ (P₃.shape.τ, l_part₃) ∷ (X₃.shape.τ, l_handed₃) ∷ (P₃.shape.τ, l_stored₃) ∷ (L.shape.τ, l_part₄) ∷ (X₄.shape.τ, l_handed₄) ∷ (L.shape.τ, l_stored₄) ∷ (O.shape.τ, l_output) ∷ []
 
     pub lent_out_meets : Meets 𝓛 sig_out (WpFn 𝓤 H C Λ function_out) (closing 𝓛 ended_out (clauses_out 𝓤))
-    lent_out_meets = out_meets 𝓛 𝓣 (λ κ κ₁ κ₂ q q₁ q₂ b o γ h b₁ o₁ i b₂ o₂ γ₂ w.
-        let Post = Post_out 𝓛 κ κ₁ κ₂ q q₁ q₂ b o γ h b₁ o₁ i b₂ o₂ γ₂ w in
-        let exits = exits_out 𝓛 κ κ₁ κ₂ q q₁ q₂ b o γ h b₁ o₁ i b₂ o₂ γ₂ w in
-        qed 𝓛 (out_entry 𝓛 κ κ₁ κ₂ q q₁ q₂ b o γ h b₁ o₁ i b₂ o₂ γ₂ w) ∵
+    lent_out_meets = Out.out_meets R I O Fin 𝓛 𝓣 function_out (λ κ κ₁ κ₂ q q₁ q₂ b o γ h b₁ o₁ i b₂ o₂ γ₂ w.
+        let Post = Out.Post_out R I O Fin 𝓛 κ κ₁ κ₂ q q₁ q₂ b o γ h b₁ o₁ i b₂ o₂ γ₂ w in
+        let exits = Out.exits_out R I O Fin 𝓛 κ κ₁ κ₂ q q₁ q₂ b o γ h b₁ o₁ i b₂ o₂ γ₂ w in
+        qed 𝓛 (Out.out_entry R I O Fin 𝓛 κ κ₁ κ₂ q q₁ q₂ b o γ h b₁ o₁ i b₂ o₂ γ₂ w) ∵
         enter ! C Λ function_out (vptr b o ∷ vptr b₁ o₁ ∷ vptr b₂ o₂ ∷ []) _ $
         alloc1 ! (λ l_result. alloc1 ! (λ l_w. alloc1 ! (λ l_i. alloc1 ! (λ l_out. alloc1 ! (λ l_a. alloc1 ! (λ l_r₀. alloc1 ! (λ l_r₁. alloc1 ! (λ l_r₂. alloc1 ! (λ l_r₃. alloc1 ! (λ l_r₄. alloc1 ! (λ l_last. alloc1 ! (λ l_input. alloc1 ! (λ l_none. alloc1 ! (λ l_part₀. alloc1 ! (λ l_handed₀. alloc1 ! (λ l_stored₀. alloc1 ! (λ l_part₁. alloc1 ! (λ l_handed₁. alloc1 ! (λ l_stored₁. alloc1 ! (λ l_part₂. alloc1 ! (λ l_handed₂. alloc1 ! (λ l_stored₂. alloc1 ! (λ l_part₃. alloc1 ! (λ l_handed₃. alloc1 ! (λ l_stored₃. alloc1 ! (λ l_part₄. alloc1 ! (λ l_handed₄. alloc1 ! (λ l_stored₄. alloc1 ! (λ l_output. alloc0 ! $
         params1 ! $ pass1 ! (init ! 54 refl (tt, tt)) $ pass1 ! (init ! 52 refl (tt, tt)) $ pass1 ! (init ! 50 refl (tt, tt)) $ pass0 ! $
@@ -263,7 +183,7 @@ module _ (P₀ P₁ P₂ P₃ L I O X₀ X₁ X₂ X₃ X₄ : PlainType) (F : F
         owned ! (row of_u8) (Is (row of_u8)) (of_u8.makes 𝓛) (ask.gives.first a) (of_u8.val (ask.gives.first a) ∷ []) (ask.laws.is_first a _ is_a) $
         returns ! (look ! 65 refl) $ forget ! 65 refl $ forget ! 7 refl $ forget ! 62 refl $ forget ! 60 refl $ forget ! 28 refl $ forget ! 24 refl $ forget ! 20 refl $ forget ! 16 refl $ forget ! 11 refl $ forget ! 12 refl $ forget ! 52 refl $ forget ! 50 refl $ forget ! 48 refl $ forget ! 25 refl $ forget ! 26 refl $ forget ! 27 refl $ forget ! 21 refl $ forget ! 22 refl $ forget ! 23 refl $ forget ! 17 refl $ forget ! 18 refl $ forget ! 19 refl $ forget ! 13 refl $ forget ! 14 refl $ forget ! 15 refl $ forget ! 8 refl $ forget ! 9 refl $ forget ! 10 refl $ forget ! 31 refl $
         move ! (65 ∷ 66 ∷ []) $ free1 ! $ move ! (7 ∷ 64 ∷ []) $ free1 ! $ move ! (61 ∷ 62 ∷ []) $ free1 ! $ move ! (59 ∷ 60 ∷ []) $ free1 ! $ move ! (27 ∷ 58 ∷ []) $ free1 ! $ move ! (23 ∷ 56 ∷ []) $ free1 ! $ move ! (19 ∷ 54 ∷ []) $ free1 ! $ move ! (15 ∷ 52 ∷ []) $ free1 ! $ move ! (10 ∷ 50 ∷ []) $ free1 ! $ move ! (10 ∷ 48 ∷ []) $ free1 ! $ move ! (45 ∷ 46 ∷ []) $ free1 ! $ move ! (43 ∷ 44 ∷ []) $ free1 ! $ move ! (41 ∷ 42 ∷ []) $ free1 ! $ move ! (19 ∷ 40 ∷ []) $ free1 ! $ move ! (19 ∷ 38 ∷ []) $ free1 ! $ move ! (19 ∷ 36 ∷ []) $ free1 ! $ move ! (16 ∷ 34 ∷ []) $ free1 ! $ move ! (16 ∷ 32 ∷ []) $ free1 ! $ move ! (16 ∷ 30 ∷ []) $ free1 ! $ move ! (13 ∷ 28 ∷ []) $ free1 ! $ move ! (13 ∷ 26 ∷ []) $ free1 ! $ move ! (13 ∷ 24 ∷ []) $ free1 ! $ move ! (10 ∷ 22 ∷ []) $ free1 ! $ move ! (10 ∷ 20 ∷ []) $ free1 ! $ move ! (10 ∷ 18 ∷ []) $ free1 ! $ move ! (7 ∷ 16 ∷ []) $ free1 ! $ move ! (7 ∷ 14 ∷ []) $ free1 ! $ move ! (7 ∷ 12 ∷ []) $ free1 ! $ move ! (9 ∷ 10 ∷ []) $ free1 ! $ free0 ! $
-        keep ! (0 ∷ 1 ∷ 2 ∷ 4 ∷ 5 ∷ 3 ∷ 7 ∷ 6 ∷ 8 ∷ []) $ by ! (exits (made r₀ r₁ r₂ r₃ r₄) (s₄.gives.second r₄) (ask.gives.first a)
+        keep ! (0 ∷ 1 ∷ 2 ∷ 4 ∷ 5 ∷ 3 ∷ 7 ∷ 6 ∷ 8 ∷ []) $ by ! (exits (made r₀ r₁ r₂ r₃ r₄) (s₄.gives.second r₄) (ask.gives.first a) (of_u8.val (ask.gives.first a))
         (law_taken h i w a r₀ r₁ r₂ r₃ r₄ asked none e₀ e₁ e₂ e₃ e₄)))))))))
         -- not 0: nothing is stored; the number is returned, and the borrow of the record is closed
         (λ some_no. skips ! $
@@ -276,5 +196,5 @@ module _ (P₀ P₁ P₂ P₃ L I O X₀ X₁ X₂ X₃ X₄ : PlainType) (F : F
         owned ! (row of_u8) (Is (row of_u8)) (of_u8.makes 𝓛) (ask.gives.first a) (of_u8.val (ask.gives.first a) ∷ []) (ask.laws.is_first a _ is_a) $
         returns ! (look ! 65 refl) $ forget ! 65 refl $ forget ! 63 refl $ forget ! 61 refl $ forget ! 59 refl $ forget ! 57 refl $ forget ! 45 refl $ forget ! 43 refl $ forget ! 41 refl $
         move ! (65 ∷ 66 ∷ []) $ free1 ! $ move ! (63 ∷ 64 ∷ []) $ free1 ! $ move ! (61 ∷ 62 ∷ []) $ free1 ! $ move ! (59 ∷ 60 ∷ []) $ free1 ! $ move ! (57 ∷ 58 ∷ []) $ free1 ! $ move ! (55 ∷ 56 ∷ []) $ free1 ! $ move ! (53 ∷ 54 ∷ []) $ free1 ! $ move ! (51 ∷ 52 ∷ []) $ free1 ! $ move ! (49 ∷ 50 ∷ []) $ free1 ! $ move ! (47 ∷ 48 ∷ []) $ free1 ! $ move ! (45 ∷ 46 ∷ []) $ free1 ! $ move ! (43 ∷ 44 ∷ []) $ free1 ! $ move ! (41 ∷ 42 ∷ []) $ free1 ! $ move ! (39 ∷ 40 ∷ []) $ free1 ! $ move ! (37 ∷ 38 ∷ []) $ free1 ! $ move ! (35 ∷ 36 ∷ []) $ free1 ! $ move ! (33 ∷ 34 ∷ []) $ free1 ! $ move ! (31 ∷ 32 ∷ []) $ free1 ! $ move ! (29 ∷ 30 ∷ []) $ free1 ! $ move ! (27 ∷ 28 ∷ []) $ free1 ! $ move ! (25 ∷ 26 ∷ []) $ free1 ! $ move ! (23 ∷ 24 ∷ []) $ free1 ! $ move ! (21 ∷ 22 ∷ []) $ free1 ! $ move ! (19 ∷ 20 ∷ []) $ free1 ! $ move ! (17 ∷ 18 ∷ []) $ free1 ! $ move ! (15 ∷ 16 ∷ []) $ free1 ! $ move ! (13 ∷ 14 ∷ []) $ free1 ! $ move ! (11 ∷ 12 ∷ []) $ free1 ! $ move ! (9 ∷ 10 ∷ []) $ free1 ! $ free0 ! $
-        keep ! (0 ∷ 1 ∷ 2 ∷ 7 ∷ 8 ∷ 3 ∷ 4 ∷ 6 ∷ 5 ∷ []) $ by ! (exits h w (ask.gives.first a) (law_left h i w a asked some_no))))))))))))))))))))))))))))))))))))))
+        keep ! (0 ∷ 1 ∷ 2 ∷ 7 ∷ 8 ∷ 3 ∷ 4 ∷ 6 ∷ 5 ∷ []) $ by ! (exits h w (ask.gives.first a) (of_u8.val (ask.gives.first a)) (law_left h i w a asked some_no))))))))))))))))))))))))))))))))))))))
     -- walk: end

@@ -1,16 +1,21 @@
 -- Plain types, with what the check proves of them: numbers, bools, floats, structs and enums, with no reference inside.
 --     PlainType        `of_struct`, `of_enum`, `of_u8`
 --     Two, two_laws    a declared struct of two fields, and its laws from what the check proves of it
+--     Answer, answer_laws    a declared enum of two variants with a field each, as Result<T, E> is, likewise
 --     Five             a declared struct of five fields
+use mathlib.Core.Path.{refl}
+use mathlib.Core.Logic.{◌⊎◌, inl, inr}
+use lib.Dec.{lit<}
 use Prim.Native.Nat.{ℕ}
 use mathlib.Core.List.{[], ◌∷◌, List}
 use seplogic.Ra.Ura.{Ura}
-use mir.Syntax.{Sym, Ty, ty_struct, tcons, tnil, Written, w8, ty_int}
+use mir.Syntax.{Sym, Ty, ty_struct, ty_enum, tcons, tnil, ttcons, ttnil, Written, w8, ty_int}
 use mir.Val.{Val, vint, vstruct, vcons, vnil}
 use base.Fml.{Fml, Lft}
 use base.Stored.{Coded}
 use types.Logic.{Logic}
 use types.Run.{first}
+use types.Match.{live}
 use denote.RattleType.{RattleType}
 use denote.Laws.{Is, Typed, Tells, Makes, Lawful, Copy}
 use denote.Exit.{unchanged}
@@ -90,6 +95,10 @@ row S = row_of S.shape
 abbrev pub Data : PlainType → Type 0
 Data S = S.shape.X
 
+-- 0 is a u8
+pub is_0 : Is (row of_u8) 0 (of_u8.val 0 ∷ [])
+is_0 = (refl, lit< tt)
+
 -- a declared struct of two plain fields
 pub record Two (S N : PlainType) : Type 2 where
   pub name : Sym
@@ -135,6 +144,66 @@ module _ (S N : PlainType) (T : Declared) (first : T.D → Data S) (second : T.D
     lawful = λ {𝓤 = 𝓤} 𝓛. record { typed = typed _ 𝓤 𝓛 };
     is_first = λ x vs is. (owed x vs is).0;
     is_second = λ x vs is. (owed x vs is).1.0;
+  }
+
+-- a declared enum of two variants with one plain field each
+pub record Answer (S N : PlainType) : Type 2 where
+  pub name : Sym
+  pub X : Type 0
+  -- which variant a value is, with what that holds
+  pub holds : X → Data S ⊎ Data N
+  pub written : Written
+  pub reaches : List (Written × List Ty)
+  pub lives : Lft
+  pub own : X → List Val → Fml
+  pub coded : Coded X
+  pub shr_at : X → ℕ → ℕ → Lft → Fml
+
+-- of a declared enum T, by what its values hold
+abbrev pub answer_of : (S N : PlainType) (T : enum.Declared) → (T.D → Data S ⊎ Data N) → Answer S N
+answer_of S N T holds = record { name = T.name; X = T.D; holds = holds; written = (enum.row T).written; reaches = (enum.row T).reaches; lives = (enum.row T).lives; own = (enum.row T).own_val; coded = (enum.row T).coded; shr_at = (enum.row T).shr_at }
+
+module _ (S N : PlainType) where
+  abbrev pub answer_ty : Sym → Ty
+  answer_ty ν = ty_enum ν (ttcons (tcons S.shape.τ tnil) (ttcons (tcons N.shape.τ tnil) ttnil))
+
+  -- the machine value, by the variant: its number and its field
+  abbrev pub held_val : Data S ⊎ Data N → Val
+  held_val (inl a) = live 0 (vcons (S.val a) vnil)
+  held_val (inr b) = live 1 (vcons (N.val b) vnil)
+
+  -- the relation of the field, by the variant
+  abbrev pub HeldIs : Data S ⊎ Data N → Type 0
+  HeldIs (inl a) = Is (row S) a (S.val a ∷ [])
+  HeldIs (inr b) = Is (row N) b (N.val b ∷ [])
+
+module _ (S N : PlainType) (P : Answer S N) where
+  abbrev pub answer_shape : Shape
+  answer_shape = record { X = P.X; τ = answer_ty S N P.name; written = P.written; reaches = P.reaches; lives = P.lives; own = P.own; coded = P.coded; shr_at = P.shr_at }
+
+  abbrev pub answer_val : P.X → Val
+  answer_val x = held_val S N (P.holds x)
+
+  -- what is proved of it, with the relation of the field
+  pub record AnswerLaws : Type 2 where
+    pub tells : Tells (row_of answer_shape) (Is (row_of answer_shape)) (λ x. answer_val x ∷ [])
+    pub lawful : {M : Type 1} {𝓤 : Ura M} (𝓛 : Logic 𝓤) → Lawful 𝓛 (row_of answer_shape)
+    pub is_held : (x : P.X) (vs : List Val) → Is (row_of answer_shape) x vs → HeldIs S N (P.holds x)
+
+-- from what the check proves of a declared enum T: `answer_laws S N T holds tells (λ M 𝓤 𝓛. (Enum.lawful T L 𝓛 few).typed) owed`. Of these `holds`, an abbrev, `tells` and `owed` have a clause for each of its two
+-- constructors: `tells` is there `Enum.tells T L x`, and `owed` is `λ vs is. (Enum.owed T L x vs is).0`
+module _ (S N : PlainType) (T : enum.Declared) (holds : T.D → Data S ⊎ Data N) where
+  abbrev of_answer : RattleType
+  of_answer = row_of (answer_shape S N (answer_of S N T holds))
+
+  abbrev pub answer_laws : Tells of_answer (Is of_answer) (λ x. answer_val S N (answer_of S N T holds) x ∷ [])
+      → ((M : Type 1) (𝓤 : Ura M) (𝓛 : Logic 𝓤) → (x : T.D) (vs : List Val) → Is of_answer x vs → Typed of_answer.mir vs)
+      → ((x : T.D) (vs : List Val) → Is of_answer x vs → HeldIs S N (holds x))
+      → AnswerLaws S N (answer_of S N T holds)
+  answer_laws tells typed owed = record {
+    tells = tells;
+    lawful = λ {𝓤 = 𝓤} 𝓛. record { typed = typed _ 𝓤 𝓛 };
+    is_held = owed;
   }
 
 -- a declared struct of five plain fields
