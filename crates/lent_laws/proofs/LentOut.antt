@@ -13,27 +13,25 @@ use lib.Dec.{T, eqb}
 use Prim.Native.Nat.{ℕ}
 use mathlib.Core.List.{[], ◌∷◌}
 use seplogic.Ra.Ura.{Ura}
-use base.Fraction.{full_share}
 use mir.Syntax.{Fn, Body as Code, local, value_local, named, mut, imm, w8, ty_bool, ty_int, ty_ref, place, deref, field, copy, int, eq, op2, rv_opd, seq, assign, call, cond, skip, return}
-use mir.Raw.{raw as raw_ty}
-use mir.Val.{Val, vptr}
-use base.Fml.{fat}
+use mir.Val.{vptr}
 use prog.Wp.{Env, WpFn, Tables}
 use types.Logic.{Logic}
-use types.Kit.{at_ret, ‵, ◌$◌, ◌∵◌, !, qed, by, move, keep, drop, use1, split, fsplit, fsplit3, rewrite}
-use types.Run.{lit, bin, look, look_raw, init, store_raw, forget, stop, hop, fld, from, load, and_then, no_more, of_opd, assigns, assigns_last, first, branches, exec, skips, land, returns, enter, alloc1, alloc0, params1, pass1, pass0, free1, free0}
+use types.Kit.{at_ret, ◌$◌, ◌∵◌, !, qed, by, move, keep}
+use types.Run.{lit, bin, look, init, store_raw, forget, stop, hop, fld, from, load, of_opd, assigns, assigns_last, first, branches, exec, skips, returns, enter, alloc1, alloc0, params1, pass1, pass0, free1, free0}
 use types.Part.{whole, sub, look_in}
 use sound.WpLaws.{FmC, fm_of}
-use denote.Laws.{Is, shows}
+use denote.Laws.{Is}
 use denote.Memory.{pointee}
 use denote.Signature.{Signature}
-use denote.Steps.{looks, shuts, opens, closes, owned, peeks}
-use denote.Struct.Steps.{spelt}
+use denote.Steps.{owned}
 use denote.Triple.Statement.{Triple}
 use denote.Triple.Clauses.{Ended, Clauses, closing}
 use denote.Triple.Spec.{Meets}
-use Rattle.lent_laws.proofs.PlainTypes.{Shape, row_of, PlainType, of_u8, row, Data, two_shape, two_val, Five, five_shape, five_val, FiveLaws}
-use Rattle.lent_laws.proofs.ByValue.{lone_is, calls_by_value, Stage, StageMeets}
+use Rattle.lent_laws.proofs.PlainTypes.{Shape, PlainType, of_u8, row, Data, two_shape, two_val, Five, five_shape, FiveLaws}
+use Rattle.lent_laws.proofs.ByValue.{Stage, StageMeets}
+use Rattle.lent_laws.proofs.LentRecord.{function_of, opens_over, closes_at}
+use Rattle.lent_laws.proofs.FiveParts.{opens_entry, closes_record, ask_last}
 use Rattle.lent_laws.proofs.OutRecord as Out
 use Rattle.lent_laws.proofs.RunPart.{runs_part, run_part}
 
@@ -53,44 +51,26 @@ module _ (P₀ P₁ P₂ P₃ L I O X₀ X₁ X₂ X₃ X₄ : PlainType) (F : F
   abbrev R : Shape
   R = five_shape P₀ P₁ P₂ P₃ L F
 
-  -- a record's value by its parts
-  abbrev parts_val : F.X → Val
-  parts_val z = five_val P₀ P₁ P₂ P₃ L F (F.part₀ z) (F.part₁ z) (F.part₂ z) (F.part₃ z) (F.last z)
-
-  -- the record of the parts that were returned, and its value
-  abbrev made : s₀.gives.X → s₁.gives.X → s₂.gives.X → s₃.gives.X → s₄.gives.X → F.X
-  made r₀ r₁ r₂ r₃ r₄ = F.make (s₀.gives.first r₀) (s₁.gives.first r₁) (s₂.gives.first r₂) (s₃.gives.first r₃) (s₄.gives.first r₄)
-
-  abbrev made_val : s₀.gives.X → s₁.gives.X → s₂.gives.X → s₃.gives.X → s₄.gives.X → Val
-  made_val r₀ r₁ r₂ r₃ r₄ = five_val P₀ P₁ P₂ P₃ L F (s₀.gives.first r₀) (s₁.gives.first r₁) (s₂.gives.first r₂) (s₃.gives.first r₃) (s₄.gives.first r₄)
-
   -- code: written by tools/walks/write
   -- the number is returned
   abbrev ends_out : Code
   ends_out = seq (assign (place 0 []) (rv_opd (copy (place 4 (field 0 ∷ []))))) return
 
   abbrev function_out : Fn
-  function_out = record {
-    lifetimes = 3;
-    outlives = [];
-    ty_params = [];
-    givens = 0;
-    params = 3;
-    locals = local (ty_int w8) value_local ∷ local (ty_ref (named 0) mut (pointee R.written)) value_local ∷ local (ty_ref (named 1) imm (pointee I.shape.written)) value_local ∷ local (ty_ref (named 2) mut (pointee O.shape.written)) value_local ∷ local (two_shape of_u8 X₀ ask.gives).τ value_local ∷ local (two_shape P₀ X₁ s₀.gives).τ value_local ∷ local (two_shape P₁ X₂ s₁.gives).τ value_local ∷ local (two_shape P₂ X₃ s₂.gives).τ value_local ∷ local (two_shape P₃ X₄ s₃.gives).τ value_local ∷ local (two_shape L O s₄.gives).τ value_local ∷ local L.shape.τ value_local ∷ local I.shape.τ value_local ∷ local ty_bool value_local ∷ local P₀.shape.τ value_local ∷ local X₀.shape.τ value_local ∷ local P₀.shape.τ value_local ∷ local P₁.shape.τ value_local ∷ local X₁.shape.τ value_local ∷ local P₁.shape.τ value_local ∷ local P₂.shape.τ value_local ∷ local X₂.shape.τ value_local ∷ local P₂.shape.τ value_local ∷ local P₃.shape.τ value_local ∷ local X₃.shape.τ value_local ∷ local P₃.shape.τ value_local ∷ local L.shape.τ value_local ∷ local X₄.shape.τ value_local ∷ local L.shape.τ value_local ∷ local O.shape.τ value_local ∷ [];
-    body = seq (assign (place 10 []) (rv_opd (copy (place 1 (deref R.τ ∷ field 4 ∷ [])))))
-        (seq (assign (place 11 []) (rv_opd (copy (place 2 (deref I.shape.τ ∷ [])))))
-        (seq (call ask.name (copy (place 10 []) ∷ copy (place 11 []) ∷ []) (place 4 []))
-        (seq (assign (place 12 []) (op2 eq (copy (place 4 (field 0 ∷ []))) (int w8 0)))
-        (seq (cond (copy (place 12 []))
-        (runs_part R.τ 0 13 14 15 4 5 s₀.name
-        (runs_part R.τ 1 16 17 18 5 6 s₁.name
-        (runs_part R.τ 2 19 20 21 6 7 s₂.name
-        (runs_part R.τ 3 22 23 24 7 8 s₃.name
-        (runs_part R.τ 4 25 26 27 8 9 s₄.name
-        (seq (assign (place 28 []) (rv_opd (copy (place 9 (field 1 ∷ []))))) (assign (place 3 (deref O.shape.τ ∷ [])) (rv_opd (copy (place 28 []))))))))))
-        skip)
-        ends_out))));
-  }
+  function_out = function_of 3 3 (local (ty_int w8) value_local ∷ local (ty_ref (named 0) mut (pointee R.written)) value_local ∷ local (ty_ref (named 1) imm (pointee I.shape.written)) value_local ∷ local (ty_ref (named 2) mut (pointee O.shape.written)) value_local ∷ local (two_shape of_u8 X₀ ask.gives).τ value_local ∷ local (two_shape P₀ X₁ s₀.gives).τ value_local ∷ local (two_shape P₁ X₂ s₁.gives).τ value_local ∷ local (two_shape P₂ X₃ s₂.gives).τ value_local ∷ local (two_shape P₃ X₄ s₃.gives).τ value_local ∷ local (two_shape L O s₄.gives).τ value_local ∷ local L.shape.τ value_local ∷ local I.shape.τ value_local ∷ local ty_bool value_local ∷ local P₀.shape.τ value_local ∷ local X₀.shape.τ value_local ∷ local P₀.shape.τ value_local ∷ local P₁.shape.τ value_local ∷ local X₁.shape.τ value_local ∷ local P₁.shape.τ value_local ∷ local P₂.shape.τ value_local ∷ local X₂.shape.τ value_local ∷ local P₂.shape.τ value_local ∷ local P₃.shape.τ value_local ∷ local X₃.shape.τ value_local ∷ local P₃.shape.τ value_local ∷ local L.shape.τ value_local ∷ local X₄.shape.τ value_local ∷ local L.shape.τ value_local ∷ local O.shape.τ value_local ∷ [])
+      (seq (assign (place 10 []) (rv_opd (copy (place 1 (deref R.τ ∷ field 4 ∷ [])))))
+      (seq (assign (place 11 []) (rv_opd (copy (place 2 (deref I.shape.τ ∷ [])))))
+      (seq (call ask.name (copy (place 10 []) ∷ copy (place 11 []) ∷ []) (place 4 []))
+      (seq (assign (place 12 []) (op2 eq (copy (place 4 (field 0 ∷ []))) (int w8 0)))
+      (seq (cond (copy (place 12 []))
+      (runs_part R.τ 0 13 14 15 4 5 s₀.name
+      (runs_part R.τ 1 16 17 18 5 6 s₁.name
+      (runs_part R.τ 2 19 20 21 6 7 s₂.name
+      (runs_part R.τ 3 22 23 24 7 8 s₃.name
+      (runs_part R.τ 4 25 26 27 8 9 s₄.name
+      (seq (assign (place 28 []) (rv_opd (copy (place 9 (field 1 ∷ []))))) (assign (place 3 (deref O.shape.τ ∷ [])) (rv_opd (copy (place 28 []))))))))))
+      skip)
+      ends_out)))))
 
   -- code: end
 
@@ -126,75 +106,49 @@ module _ (P₀ P₁ P₂ P₃ L I O X₀ X₁ X₂ X₃ X₄ : PlainType) (F : F
         enter ! C Λ function_out (vptr b o ∷ vptr b₁ o₁ ∷ vptr b₂ o₂ ∷ []) _ $
         alloc1 ! (λ l_result. alloc1 ! (λ l_w. alloc1 ! (λ l_i. alloc1 ! (λ l_out. alloc1 ! (λ l_a. alloc1 ! (λ l_r₀. alloc1 ! (λ l_r₁. alloc1 ! (λ l_r₂. alloc1 ! (λ l_r₃. alloc1 ! (λ l_r₄. alloc1 ! (λ l_last. alloc1 ! (λ l_input. alloc1 ! (λ l_none. alloc1 ! (λ l_part₀. alloc1 ! (λ l_handed₀. alloc1 ! (λ l_stored₀. alloc1 ! (λ l_part₁. alloc1 ! (λ l_handed₁. alloc1 ! (λ l_stored₁. alloc1 ! (λ l_part₂. alloc1 ! (λ l_handed₂. alloc1 ! (λ l_stored₂. alloc1 ! (λ l_part₃. alloc1 ! (λ l_handed₃. alloc1 ! (λ l_stored₃. alloc1 ! (λ l_part₄. alloc1 ! (λ l_handed₄. alloc1 ! (λ l_stored₄. alloc1 ! (λ l_output. alloc0 ! $
         params1 ! $ pass1 ! (init ! 54 refl (tt, tt)) $ pass1 ! (init ! 52 refl (tt, tt)) $ pass1 ! (init ! 50 refl (tt, tt)) $ pass0 ! $
-        move ! (59 ∷ []) $ fsplit ! $ fsplit3 ! $ drop ! $
-        move ! (2 ∷ []) $ fsplit ! $ fsplit ! $ drop ! $
-        move ! (1 ∷ []) $ fsplit ! $ fsplit3 ! $ drop ! $ move ! (2 ∷ []) $ drop ! $
-        move ! (63 ∷ []) $ split ! $ move ! (1 ∷ []) $ split ! $ move ! (1 ∷ []) $ split ! $ move ! (1 ∷ []) $ drop ! $
-        -- the borrow of the record is opened
-        move ! (6 ∷ 7 ∷ 2 ∷ []) $ opens ! tt (row_of R) {h = h} b o (λ vs.
-        spelt ! (row_of R) (Is (row_of R)) (shows 𝓛 (row_of R)) (λ z. parts_val z ∷ []) FL.tells full_share h vs b o $
-        move ! (1 ∷ []) $ peeks ! (row_of R) (Is (row_of R)) (shows 𝓛 (row_of R)) h (parts_val h ∷ []) (λ was. drop ! $
-        move ! (0 ∷ []) $ use1 𝓛 (‵ (fat full_share R.τ b o (parts_val h))) (𝓛.laws.raw_at full_share R.τ b o (parts_val h)) $
-        -- the last part and the input are copied
-        assigns ! (of_opd ! (load ! (from ! (hop ! (look ! 63 refl) (fld ! refl (stop !)))) (look_in ! 0 (sub ! 4 refl (whole !))))) (from ! (stop !))
-        (init ! 45 refl ((L.lawful 𝓛).typed (F.last h) _ (FL.is_last h _ was)).0) $
-        move ! (8 ∷ 5 ∷ []) $ looks ! tt (row I) (I.opens 𝓛) i b₁ o₁ (λ q' vs₁.
-        spelt ! (row I) (Is (row I)) (shows 𝓛 (row I)) (λ z. I.val z ∷ []) I.tells q' i vs₁ b₁ o₁ $
-        move ! (1 ∷ []) $ peeks ! (row I) (Is (row I)) (shows 𝓛 (row I)) i (I.val i ∷ []) (λ is_i. move ! (1 ∷ 0 ∷ []) $
-        assigns ! (of_opd ! (load ! (from ! (hop ! (look ! 63 refl) (stop !))) (look_raw ! 0 refl))) (from ! (stop !))
-        (init ! 45 refl ((I.lawful 𝓛).typed i _ is_i).0) $
-        shuts ! tt (row I) q' i (I.val i ∷ []) b₁ o₁ $
-        -- the number and its test
-        calls_by_value (L ∷ I ∷ []) (two_shape of_u8 X₀ ask.gives) (λ d. ask.does d.0 d.1.0) 𝓛 (F.last h, (i, tt)) (FL.is_last h _ was, (is_i, tt)) fm known
-        (and_then ! (load ! (from ! (stop !)) (look ! 46 refl)) (and_then ! (load ! (from ! (stop !)) (look ! 44 refl)) (no_more !))) (λ a v asked is_a.
-        land ! (from ! (stop !)) (init ! 58 refl ((ask.laws.lawful 𝓛).typed a _ is_a).0) $
-        rewrite ! 58 (λ (u : Val). ‵ (fat full_share (two_shape of_u8 X₀ ask.gives).τ l_a 0 u)) (lone_is v (two_val of_u8 X₀ ask.gives a) (ask.laws.tells a (v ∷ []) is_a)) refl $ drop ! $
-        assigns ! (bin ! (load ! (from ! (fld ! refl (stop !))) (look_in ! 57 (sub ! 0 refl (whole !)))) (lit ! tt) tt) (from ! (stop !)) (init ! 41 refl (tt, tt)) $
-        first ! $ branches ! (load ! (from ! (stop !)) (look ! 41 refl))
+        -- the borrow of the record is opened, and the last part is asked about the input
+        move ! (59 ∷ 58 ∷ []) $ opens_entry P₀ P₁ P₂ P₃ L F FL 𝓛 I O Fin κ κ₁ κ₂ q q₁ q₂ b o γ h b₁ o₁ i b₂ o₂ γ₂ w tt (λ was.
+        move ! (0 ∷ 63 ∷ 61 ∷ 45 ∷ 43 ∷ 57 ∷ 4 ∷ 5 ∷ []) $ ask_last P₀ P₁ P₂ P₃ L F FL 𝓛 fm I (two_shape of_u8 X₀ ask.gives) (two_val of_u8 X₀ ask.gives) ask.laws.tells (ask.laws.lawful 𝓛) ask.does known
+        10 11 4 refl refl refl refl refl h was i (λ a v asked is_a.
+        assigns ! (bin ! (load ! (from ! (fld ! refl (stop !))) (look_in ! 5 (sub ! 0 refl (whole !)))) (lit ! tt) tt) (from ! (stop !)) (init ! 46 refl (tt, tt)) $
+        first ! $ branches ! (load ! (from ! (stop !)) (look ! 46 refl))
         -- 0: the parts in their order
         (λ none.
-        move ! (2 ∷ 63 ∷ 39 ∷ 37 ∷ 35 ∷ 57 ∷ 55 ∷ []) $ run_part 𝓛 fm of_u8 P₀ X₀ X₁ ask.gives s₀ known₀ 0 13 14 15 4 5 refl refl refl refl refl refl refl
+        move ! (0 ∷ 1 ∷ 44 ∷ 42 ∷ 40 ∷ 5 ∷ 58 ∷ []) $ run_part 𝓛 fm of_u8 P₀ X₀ X₁ ask.gives s₀ known₀ 0 13 14 15 4 5 refl refl refl refl refl refl refl
         (F.part₀ h) refl (FL.is_part₀ h _ was) a (ask.laws.is_second a _ is_a) (λ r₀ e₀ f₀ g₀.
-        move ! (0 ∷ 1 ∷ 39 ∷ 37 ∷ 35 ∷ 6 ∷ 56 ∷ []) $ run_part 𝓛 fm P₀ P₁ X₁ X₂ s₀.gives s₁ known₁ 1 16 17 18 5 6 refl refl refl refl refl refl refl
+        move ! (0 ∷ 1 ∷ 42 ∷ 40 ∷ 38 ∷ 6 ∷ 57 ∷ []) $ run_part 𝓛 fm P₀ P₁ X₁ X₂ s₀.gives s₁ known₁ 1 16 17 18 5 6 refl refl refl refl refl refl refl
         (F.part₁ h) refl (FL.is_part₁ h _ was) r₀ g₀ (λ r₁ e₁ f₁ g₁.
-        move ! (0 ∷ 1 ∷ 37 ∷ 35 ∷ 33 ∷ 6 ∷ 55 ∷ []) $ run_part 𝓛 fm P₁ P₂ X₂ X₃ s₁.gives s₂ known₂ 2 19 20 21 6 7 refl refl refl refl refl refl refl
+        move ! (0 ∷ 1 ∷ 40 ∷ 38 ∷ 36 ∷ 6 ∷ 56 ∷ []) $ run_part 𝓛 fm P₁ P₂ X₂ X₃ s₁.gives s₂ known₂ 2 19 20 21 6 7 refl refl refl refl refl refl refl
         (F.part₂ h) refl (FL.is_part₂ h _ was) r₁ g₁ (λ r₂ e₂ f₂ g₂.
-        move ! (0 ∷ 1 ∷ 35 ∷ 33 ∷ 31 ∷ 6 ∷ 54 ∷ []) $ run_part 𝓛 fm P₂ P₃ X₃ X₄ s₂.gives s₃ known₃ 3 22 23 24 7 8 refl refl refl refl refl refl refl
+        move ! (0 ∷ 1 ∷ 38 ∷ 36 ∷ 34 ∷ 6 ∷ 55 ∷ []) $ run_part 𝓛 fm P₂ P₃ X₃ X₄ s₂.gives s₃ known₃ 3 22 23 24 7 8 refl refl refl refl refl refl refl
         (F.part₃ h) refl (FL.is_part₃ h _ was) r₂ g₂ (λ r₃ e₃ f₃ g₃.
-        move ! (0 ∷ 1 ∷ 33 ∷ 31 ∷ 29 ∷ 6 ∷ 53 ∷ []) $ run_part 𝓛 fm P₃ L X₄ O s₃.gives s₄ known₄ 4 25 26 27 8 9 refl refl refl refl refl refl refl
+        move ! (0 ∷ 1 ∷ 36 ∷ 34 ∷ 32 ∷ 6 ∷ 54 ∷ []) $ run_part 𝓛 fm P₃ L X₄ O s₃.gives s₄ known₄ 4 25 26 27 8 9 refl refl refl refl refl refl refl
         (F.last h) refl (FL.is_last h _ was) r₃ g₃ (λ r₄ e₄ f₄ g₄.
         -- the output is stored
-        move ! (29 ∷ 30 ∷ 28 ∷ []) $ opens ! tt (row O) {h = w} b₂ o₂ (λ vs₂.
-        spelt ! (row O) (Is (row O)) (shows 𝓛 (row O)) (λ z. O.val z ∷ []) O.tells full_share w vs₂ b₂ o₂ $ move ! (1 ∷ []) $ drop ! $
+        move ! (31 ∷ 32 ∷ 33 ∷ []) $ opens_over O 𝓛 tt b₂ o₂ w $
         assigns ! (of_opd ! (load ! (from ! (fld ! refl (stop !))) (look_in ! 10 (sub ! 1 refl (whole !))))) (from ! (stop !))
-        (init ! 32 refl ((O.lawful 𝓛).typed (s₄.gives.second r₄) _ g₄).0) $
-        assigns_last ! (of_opd ! (load ! (from ! (stop !)) (look ! 32 refl))) (from ! (hop ! (look ! 61 refl) (stop !)))
+        (init ! 35 refl ((O.lawful 𝓛).typed (s₄.gives.second r₄) _ g₄).0) $
+        assigns_last ! (of_opd ! (load ! (from ! (stop !)) (look ! 35 refl))) (from ! (hop ! (look ! 62 refl) (stop !)))
         (store_raw ! 0 refl ((O.lawful 𝓛).typed (s₄.gives.second r₄) _ g₄).0) $
         -- the number is returned, and both borrows are closed
         exec ! C Λ (E l_result l_w l_i l_out l_a l_r₀ l_r₁ l_r₂ l_r₃ l_r₄ l_last l_input l_none l_part₀ l_handed₀ l_stored₀ l_part₁ l_handed₁ l_stored₁ l_part₂ l_handed₂ l_stored₂ l_part₃ l_handed₃ l_stored₃ l_part₄ l_handed₄ l_stored₄ l_output) ends_out (at_ret (E l_result l_w l_i l_out l_a l_r₀ l_r₁ l_r₂ l_r₃ l_r₄ l_last l_input l_none l_part₀ l_handed₀ l_stored₀ l_part₁ l_handed₁ l_stored₁ l_part₂ l_handed₂ l_stored₂ l_part₃ l_handed₃ l_stored₃ l_part₄ l_handed₄ l_stored₄ l_output) Post) $
         assigns ! (of_opd ! (load ! (from ! (fld ! refl (stop !))) (look_in ! 26 (sub ! 0 refl (whole !))))) (from ! (stop !))
         (init ! 66 refl ((of_u8.lawful 𝓛).typed (ask.gives.first a) _ (ask.laws.is_first a _ is_a)).0) $
-        owned ! (row O) (Is (row O)) (O.makes 𝓛) (s₄.gives.second r₄) (O.val (s₄.gives.second r₄) ∷ []) g₄ $
-        move ! (1 ∷ 0 ∷ 2 ∷ 3 ∷ 4 ∷ []) $ closes ! tt (row O) (s₄.gives.second r₄) (O.val (s₄.gives.second r₄) ∷ []) b₂ o₂ $
-        owned ! (row_of R) (Is (row_of R)) (FL.makes 𝓛) (made r₀ r₁ r₂ r₃ r₄) (made_val r₀ r₁ r₂ r₃ r₄ ∷ [])
-        (FL.is_made (s₀.gives.first r₀) (s₁.gives.first r₁) (s₂.gives.first r₂) (s₃.gives.first r₃) (s₄.gives.first r₄) f₀ f₁ f₂ f₃ f₄) $
-        move ! (4 ∷ []) $ use1 𝓛 (‵ (fat full_share (raw_ty R.τ) b o (made_val r₀ r₁ r₂ r₃ r₄))) (𝓛.laws.at_raw full_share R.τ b o (made_val r₀ r₁ r₂ r₃ r₄)) $
-        move ! (0 ∷ 1 ∷ 29 ∷ 30 ∷ 31 ∷ []) $ closes ! tt (row_of R) (made r₀ r₁ r₂ r₃ r₄) (made_val r₀ r₁ r₂ r₃ r₄ ∷ []) b o $
+        move ! (0 ∷ 1 ∷ 2 ∷ 3 ∷ []) $ closes_at O 𝓛 tt b₂ o₂ (s₄.gives.second r₄) _ g₄ $
+        move ! (3 ∷ 31 ∷ 32 ∷ 33 ∷ []) $ closes_record P₀ P₁ P₂ P₃ L F FL 𝓛 tt _ _ (FL.is_made (s₀.gives.first r₀) (s₁.gives.first r₁) (s₂.gives.first r₂) (s₃.gives.first r₃) (s₄.gives.first r₄) f₀ f₁ f₂ f₃ f₄) $
         owned ! (row of_u8) (Is (row of_u8)) (of_u8.makes 𝓛) (ask.gives.first a) (of_u8.val (ask.gives.first a) ∷ []) (ask.laws.is_first a _ is_a) $
-        returns ! (look ! 65 refl) $ forget ! 65 refl $ forget ! 7 refl $ forget ! 62 refl $ forget ! 60 refl $ forget ! 28 refl $ forget ! 24 refl $ forget ! 20 refl $ forget ! 16 refl $ forget ! 11 refl $ forget ! 12 refl $ forget ! 52 refl $ forget ! 50 refl $ forget ! 48 refl $ forget ! 25 refl $ forget ! 26 refl $ forget ! 27 refl $ forget ! 21 refl $ forget ! 22 refl $ forget ! 23 refl $ forget ! 17 refl $ forget ! 18 refl $ forget ! 19 refl $ forget ! 13 refl $ forget ! 14 refl $ forget ! 15 refl $ forget ! 8 refl $ forget ! 9 refl $ forget ! 10 refl $ forget ! 31 refl $
-        move ! (65 ∷ 66 ∷ []) $ free1 ! $ move ! (7 ∷ 64 ∷ []) $ free1 ! $ move ! (61 ∷ 62 ∷ []) $ free1 ! $ move ! (59 ∷ 60 ∷ []) $ free1 ! $ move ! (27 ∷ 58 ∷ []) $ free1 ! $ move ! (23 ∷ 56 ∷ []) $ free1 ! $ move ! (19 ∷ 54 ∷ []) $ free1 ! $ move ! (15 ∷ 52 ∷ []) $ free1 ! $ move ! (10 ∷ 50 ∷ []) $ free1 ! $ move ! (10 ∷ 48 ∷ []) $ free1 ! $ move ! (45 ∷ 46 ∷ []) $ free1 ! $ move ! (43 ∷ 44 ∷ []) $ free1 ! $ move ! (41 ∷ 42 ∷ []) $ free1 ! $ move ! (19 ∷ 40 ∷ []) $ free1 ! $ move ! (19 ∷ 38 ∷ []) $ free1 ! $ move ! (19 ∷ 36 ∷ []) $ free1 ! $ move ! (16 ∷ 34 ∷ []) $ free1 ! $ move ! (16 ∷ 32 ∷ []) $ free1 ! $ move ! (16 ∷ 30 ∷ []) $ free1 ! $ move ! (13 ∷ 28 ∷ []) $ free1 ! $ move ! (13 ∷ 26 ∷ []) $ free1 ! $ move ! (13 ∷ 24 ∷ []) $ free1 ! $ move ! (10 ∷ 22 ∷ []) $ free1 ! $ move ! (10 ∷ 20 ∷ []) $ free1 ! $ move ! (10 ∷ 18 ∷ []) $ free1 ! $ move ! (7 ∷ 16 ∷ []) $ free1 ! $ move ! (7 ∷ 14 ∷ []) $ free1 ! $ move ! (7 ∷ 12 ∷ []) $ free1 ! $ move ! (9 ∷ 10 ∷ []) $ free1 ! $ free0 ! $
-        keep ! (0 ∷ 1 ∷ 2 ∷ 4 ∷ 5 ∷ 3 ∷ 7 ∷ 6 ∷ 8 ∷ []) $ by ! (exits (made r₀ r₁ r₂ r₃ r₄) (s₄.gives.second r₄) (ask.gives.first a) (of_u8.val (ask.gives.first a))
-        (law_taken h i w a r₀ r₁ r₂ r₃ r₄ asked none e₀ e₁ e₂ e₃ e₄)))))))))
+        returns ! (look ! 65 refl) $ forget ! 65 refl $ forget ! 7 refl $ forget ! 29 refl $ forget ! 61 refl $ forget ! 28 refl $ forget ! 24 refl $ forget ! 20 refl $ forget ! 16 refl $ forget ! 11 refl $ forget ! 12 refl $ forget ! 30 refl $ forget ! 31 refl $ forget ! 51 refl $ forget ! 25 refl $ forget ! 26 refl $ forget ! 27 refl $ forget ! 21 refl $ forget ! 22 refl $ forget ! 23 refl $ forget ! 17 refl $ forget ! 18 refl $ forget ! 19 refl $ forget ! 13 refl $ forget ! 14 refl $ forget ! 15 refl $ forget ! 8 refl $ forget ! 9 refl $ forget ! 10 refl $ forget ! 34 refl $
+        move ! (65 ∷ 66 ∷ []) $ free1 ! $ move ! (7 ∷ 64 ∷ []) $ free1 ! $ move ! (28 ∷ 62 ∷ []) $ free1 ! $ move ! (59 ∷ 60 ∷ []) $ free1 ! $ move ! (27 ∷ 58 ∷ []) $ free1 ! $ move ! (23 ∷ 56 ∷ []) $ free1 ! $ move ! (19 ∷ 54 ∷ []) $ free1 ! $ move ! (15 ∷ 52 ∷ []) $ free1 ! $ move ! (10 ∷ 50 ∷ []) $ free1 ! $ move ! (10 ∷ 48 ∷ []) $ free1 ! $ move ! (22 ∷ 46 ∷ []) $ free1 ! $ move ! (22 ∷ 44 ∷ []) $ free1 ! $ move ! (41 ∷ 42 ∷ []) $ free1 ! $ move ! (19 ∷ 40 ∷ []) $ free1 ! $ move ! (19 ∷ 38 ∷ []) $ free1 ! $ move ! (19 ∷ 36 ∷ []) $ free1 ! $ move ! (16 ∷ 34 ∷ []) $ free1 ! $ move ! (16 ∷ 32 ∷ []) $ free1 ! $ move ! (16 ∷ 30 ∷ []) $ free1 ! $ move ! (13 ∷ 28 ∷ []) $ free1 ! $ move ! (13 ∷ 26 ∷ []) $ free1 ! $ move ! (13 ∷ 24 ∷ []) $ free1 ! $ move ! (10 ∷ 22 ∷ []) $ free1 ! $ move ! (10 ∷ 20 ∷ []) $ free1 ! $ move ! (10 ∷ 18 ∷ []) $ free1 ! $ move ! (7 ∷ 16 ∷ []) $ free1 ! $ move ! (7 ∷ 14 ∷ []) $ free1 ! $ move ! (7 ∷ 12 ∷ []) $ free1 ! $ move ! (9 ∷ 10 ∷ []) $ free1 ! $ free0 ! $
+        keep ! (0 ∷ 1 ∷ 2 ∷ 4 ∷ 5 ∷ 3 ∷ 8 ∷ 6 ∷ 7 ∷ []) $ by ! (exits (F.make (s₀.gives.first r₀) (s₁.gives.first r₁) (s₂.gives.first r₂) (s₃.gives.first r₃) (s₄.gives.first r₄)) (s₄.gives.second r₄) (ask.gives.first a) (of_u8.val (ask.gives.first a))
+        (law_taken h i w a r₀ r₁ r₂ r₃ r₄ asked none e₀ e₁ e₂ e₃ e₄))))))))
         -- not 0: nothing is stored; the number is returned, and the borrow of the record is closed
         (λ some_no. skips ! $
         exec ! C Λ (E l_result l_w l_i l_out l_a l_r₀ l_r₁ l_r₂ l_r₃ l_r₄ l_last l_input l_none l_part₀ l_handed₀ l_stored₀ l_part₁ l_handed₁ l_stored₁ l_part₂ l_handed₂ l_stored₂ l_part₃ l_handed₃ l_stored₃ l_part₄ l_handed₄ l_stored₄ l_output) ends_out (at_ret (E l_result l_w l_i l_out l_a l_r₀ l_r₁ l_r₂ l_r₃ l_r₄ l_last l_input l_none l_part₀ l_handed₀ l_stored₀ l_part₁ l_handed₁ l_stored₁ l_part₂ l_handed₂ l_stored₂ l_part₃ l_handed₃ l_stored₃ l_part₄ l_handed₄ l_stored₄ l_output) Post) $
-        assigns ! (of_opd ! (load ! (from ! (fld ! refl (stop !))) (look_in ! 57 (sub ! 0 refl (whole !))))) (from ! (stop !))
+        assigns ! (of_opd ! (load ! (from ! (fld ! refl (stop !))) (look_in ! 5 (sub ! 0 refl (whole !))))) (from ! (stop !))
         (init ! 65 refl ((of_u8.lawful 𝓛).typed (ask.gives.first a) _ (ask.laws.is_first a _ is_a)).0) $
-        owned ! (row_of R) (Is (row_of R)) (FL.makes 𝓛) h (parts_val h ∷ []) was $
-        move ! (3 ∷ []) $ use1 𝓛 (‵ (fat full_share (raw_ty R.τ) b o (parts_val h))) (𝓛.laws.at_raw full_share R.τ b o (parts_val h)) $
-        move ! (0 ∷ 1 ∷ 4 ∷ 5 ∷ 6 ∷ []) $ closes ! tt (row_of R) h (parts_val h ∷ []) b o $
+        move ! (0 ∷ 8 ∷ 9 ∷ 10 ∷ []) $ closes_record P₀ P₁ P₂ P₃ L F FL 𝓛 tt h _ was $
         owned ! (row of_u8) (Is (row of_u8)) (of_u8.makes 𝓛) (ask.gives.first a) (of_u8.val (ask.gives.first a) ∷ []) (ask.laws.is_first a _ is_a) $
-        returns ! (look ! 65 refl) $ forget ! 65 refl $ forget ! 63 refl $ forget ! 61 refl $ forget ! 59 refl $ forget ! 57 refl $ forget ! 45 refl $ forget ! 43 refl $ forget ! 41 refl $
-        move ! (65 ∷ 66 ∷ []) $ free1 ! $ move ! (63 ∷ 64 ∷ []) $ free1 ! $ move ! (61 ∷ 62 ∷ []) $ free1 ! $ move ! (59 ∷ 60 ∷ []) $ free1 ! $ move ! (57 ∷ 58 ∷ []) $ free1 ! $ move ! (55 ∷ 56 ∷ []) $ free1 ! $ move ! (53 ∷ 54 ∷ []) $ free1 ! $ move ! (51 ∷ 52 ∷ []) $ free1 ! $ move ! (49 ∷ 50 ∷ []) $ free1 ! $ move ! (47 ∷ 48 ∷ []) $ free1 ! $ move ! (45 ∷ 46 ∷ []) $ free1 ! $ move ! (43 ∷ 44 ∷ []) $ free1 ! $ move ! (41 ∷ 42 ∷ []) $ free1 ! $ move ! (39 ∷ 40 ∷ []) $ free1 ! $ move ! (37 ∷ 38 ∷ []) $ free1 ! $ move ! (35 ∷ 36 ∷ []) $ free1 ! $ move ! (33 ∷ 34 ∷ []) $ free1 ! $ move ! (31 ∷ 32 ∷ []) $ free1 ! $ move ! (29 ∷ 30 ∷ []) $ free1 ! $ move ! (27 ∷ 28 ∷ []) $ free1 ! $ move ! (25 ∷ 26 ∷ []) $ free1 ! $ move ! (23 ∷ 24 ∷ []) $ free1 ! $ move ! (21 ∷ 22 ∷ []) $ free1 ! $ move ! (19 ∷ 20 ∷ []) $ free1 ! $ move ! (17 ∷ 18 ∷ []) $ free1 ! $ move ! (15 ∷ 16 ∷ []) $ free1 ! $ move ! (13 ∷ 14 ∷ []) $ free1 ! $ move ! (11 ∷ 12 ∷ []) $ free1 ! $ move ! (9 ∷ 10 ∷ []) $ free1 ! $ free0 ! $
-        keep ! (0 ∷ 1 ∷ 2 ∷ 7 ∷ 8 ∷ 3 ∷ 4 ∷ 6 ∷ 5 ∷ []) $ by ! (exits h w (ask.gives.first a) (of_u8.val (ask.gives.first a)) (law_left h i w a asked some_no))))))))))))))))))))))))))))))))))))))
+        returns ! (look ! 65 refl) $ forget ! 65 refl $ forget ! 4 refl $ forget ! 5 refl $ forget ! 61 refl $ forget ! 8 refl $ forget ! 6 refl $ forget ! 7 refl $ forget ! 46 refl $
+        move ! (65 ∷ 66 ∷ []) $ free1 ! $ move ! (4 ∷ 64 ∷ []) $ free1 ! $ move ! (4 ∷ 62 ∷ []) $ free1 ! $ move ! (59 ∷ 60 ∷ []) $ free1 ! $ move ! (6 ∷ 58 ∷ []) $ free1 ! $ move ! (55 ∷ 56 ∷ []) $ free1 ! $ move ! (53 ∷ 54 ∷ []) $ free1 ! $ move ! (51 ∷ 52 ∷ []) $ free1 ! $ move ! (49 ∷ 50 ∷ []) $ free1 ! $ move ! (47 ∷ 48 ∷ []) $ free1 ! $ move ! (4 ∷ 46 ∷ []) $ free1 ! $ move ! (4 ∷ 44 ∷ []) $ free1 ! $ move ! (41 ∷ 42 ∷ []) $ free1 ! $ move ! (39 ∷ 40 ∷ []) $ free1 ! $ move ! (37 ∷ 38 ∷ []) $ free1 ! $ move ! (35 ∷ 36 ∷ []) $ free1 ! $ move ! (33 ∷ 34 ∷ []) $ free1 ! $ move ! (31 ∷ 32 ∷ []) $ free1 ! $ move ! (29 ∷ 30 ∷ []) $ free1 ! $ move ! (27 ∷ 28 ∷ []) $ free1 ! $ move ! (25 ∷ 26 ∷ []) $ free1 ! $ move ! (23 ∷ 24 ∷ []) $ free1 ! $ move ! (21 ∷ 22 ∷ []) $ free1 ! $ move ! (19 ∷ 20 ∷ []) $ free1 ! $ move ! (17 ∷ 18 ∷ []) $ free1 ! $ move ! (15 ∷ 16 ∷ []) $ free1 ! $ move ! (13 ∷ 14 ∷ []) $ free1 ! $ move ! (11 ∷ 12 ∷ []) $ free1 ! $ move ! (9 ∷ 10 ∷ []) $ free1 ! $ free0 ! $
+        keep ! (0 ∷ 1 ∷ 2 ∷ 6 ∷ 7 ∷ 3 ∷ 5 ∷ 8 ∷ 4 ∷ []) $ by ! (exits h w (ask.gives.first a) (of_u8.val (ask.gives.first a)) (law_left h i w a asked some_no)))))))))))))))))))))))))))))))))))
     -- walk: end

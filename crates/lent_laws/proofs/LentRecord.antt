@@ -2,33 +2,64 @@
 -- record and the input on entry, the record at exit and the result; and that a function whose code is walked meets it. Assumes nothing.
 --     LentWalk     what a walk of the code shows, from `lent_entry`; `lent_exit` ends it
 --     lent_meets   the contract from the walk
--- The marked part is written by tools/walks/write, from the names in LentRecord.walk there.
+--     function_of  such a function's code
+--     opens_over, closes_at    what a `&mut` to a plain type is opened for, when what stood there is written over, and closed again
+-- The marked parts are written by tools/walks/write, from the names in LentRecord.walk there.
 use mathlib.Core.Path.{refl}
 use Prim.Native.Nat.{ℕ}
 use mathlib.Core.List.{[], ◌∷◌, List}
 use seplogic.Ra.Ura.{Ura}
-use mir.Syntax.{Fn, named}
+use base.Fraction.{full_share}
+use base.Stored.{Gv}
+use mir.Syntax.{Fn, Local, Body as Code, named}
 use mir.Val.{Val, vptr}
 use base.Logic.{SProp, ent, emp, via, fst∗}
-use base.Fml.{GName, Lft, Share, ftrue, flft, fobs, fbor}
+use base.Fml.{GName, Lft, Share, ftrue, flft, fobs, fauth, fbor, fobor}
 use prog.Wp.{Calls, Loops, WpFn, Tables}
 use types.Logic.{Logic}
 use contract.Monad.{fact}
-use types.Kit.{Item, ‵, ◌⊛◌, ⋆, ◌$◌, ◌∵◌, !, qed, move, join, fjoin, fjoin3, feq_i, suffices, frame, done}
+use types.Kit.{Go, Goal, Soaks, Step, step, Item, ‵, ◌⊛◌, ⋆, ◌$◌, ◌∵◌, !, qed, move, drop, join, fjoin, fjoin3, feq_i, suffices, frame, done}
 use types.SemTy.{Body}
 use sound.WpLaws.{WpFn-mono}
 use denote.RattleType.{owns}
-use denote.Laws.{Is}
-use denote.Memory.{mem}
+use denote.Laws.{Is, shows}
+use denote.Memory.{cell_at, mem}
 use denote.Ref.{MutBor, MutRef, mut_vals, mut_Tells}
 use denote.Signature.{Signature, plain, mut_ref_to}
-use denote.Steps.{owned, nothing}
+use denote.Steps.{opens, closes, owned, nothing}
+use denote.Struct.Steps.{spelt}
 use denote.Triple.Clauses.{Ended, Clauses, closing}
 use denote.Triple.Entry.{on_entry}
 use denote.Triple.Spec.{Meets}
 use denote.Triple.Walked.{says, Stays, stay_ref, stay_none, walk_of, AllGo, Goes-none, Goes-ref, ends_at, walked, walk_Meets}
 use denote.Exit.{yes}
 use Rattle.lent_laws.proofs.PlainTypes.{PlainType, row, Data}
+
+-- the code of a function with so many lifetimes and parameters, and no type parameter
+abbrev pub function_of : ℕ → ℕ → List Local → Code → Fn
+function_of k n ls code = record { lifetimes = k; outlives = []; ty_params = []; givens = 0; params = n; locals = ls; body = code }
+
+module _ (S : PlainType) {M : Type 1} {𝓤 : Ura M} (𝓛 : Logic 𝓤) {Γ : List (Item 𝓤)} where
+  open 𝓛 use {H}
+
+  module _ {G : Goal 𝓤 H} (z : Soaks G) {κ : Lft} {q : Share} {γ : GName} (b o : ℕ) where
+    -- [its cell; what closes it]
+    pub opens_over : (h : Data S) → Step (Go {0}) 𝓛
+        (‵ (cell_at full_share (row S).mir (S.val h ∷ []) b o) ∷ ‵ (fobor κ q (Body (mem (row S)) b o γ)) ∷ ‵ (fobs γ ((row S).coded.code h)) ∷ ‵ (fauth γ ((row S).coded.code h)) ∷ Γ) G
+        (‵ (fobs γ ((row S).coded.code h)) ∷ ‵ (fbor κ (Body (mem (row S)) b o γ)) ∷ ‵ (flft κ q) ∷ Γ) G
+    -- opened: written by tools/walks/write
+    opens_over h = step (λ k. opens ! z (row S) {h = h} b o (λ vs.
+        spelt ! (row S) (Is (row S)) (shows 𝓛 (row S)) (λ x. S.val x ∷ []) S.tells full_share h vs b o $ move ! (1 ∷ []) $ drop ! $ k))
+
+    -- opened: end
+
+    pub closes_at : {u u' : Gv} (h : Data S) (v : Val) → Is (row S) h (v ∷ []) → Step (Go {0}) 𝓛
+        (‵ (fobs γ ((row S).coded.code h)) ∷ ‵ (fbor κ (Body (mem (row S)) b o γ)) ∷ ‵ (flft κ q) ∷ Γ) G
+        (‵ (cell_at full_share (row S).mir (v ∷ []) b o) ∷ ‵ (fobor κ q (Body (mem (row S)) b o γ)) ∷ ‵ (fobs γ u) ∷ ‵ (fauth γ u') ∷ Γ) G
+    -- closed: written by tools/walks/write
+    closes_at h v is = step (λ k. owned ! (row S) (Is (row S)) (S.makes 𝓛) h (v ∷ []) is $
+        move ! (1 ∷ 0 ∷ 2 ∷ 3 ∷ 4 ∷ []) $ closes ! z (row S) h (v ∷ []) b o $ k)
+    -- closed: end
 
 module _ (S I N : PlainType) (Fin : Data S → Data I → Data S → Data N → Type 0) where
   abbrev signature : Signature

@@ -19,13 +19,12 @@ use types.Kit.{at_ret, ‵, ◌$◌, ◌∵◌, !, qed, by, move, keep, drop, sp
 use types.Run.{lit, bin, look, init, store_raw, forget, stop, hop, fld, from, load, and_then, no_more, of_opd, assigns, assigns_last, first, branches, exec, skips, land, returns, enter, alloc1, alloc0, params1, pass1, pass0, free1, free0}
 use types.Part.{whole, sub, look_in}
 use sound.WpLaws.{FmC, fm_of}
-use denote.Laws.{Is, shows}
+use denote.Laws.{Is}
 use denote.Memory.{pointee}
-use denote.Steps.{opens, closes, owned}
-use denote.Struct.Steps.{spelt}
+use denote.Steps.{owned}
 use denote.Triple.Statement.{Triple}
 use Rattle.lent_laws.proofs.PlainTypes.{Shape, PlainType, of_u8, row, Data, Two, two_shape, two_val, TwoLaws}
-use Rattle.lent_laws.proofs.LentRecord.{lent_post, lent_entry, lent_exit, LentMeets, lent_meets}
+use Rattle.lent_laws.proofs.LentRecord.{function_of, opens_over, closes_at, lent_post, lent_entry, lent_exit, LentMeets, lent_meets}
 use Rattle.lent_laws.proofs.ByValue.{ByValue, lone_is, calls_by_value}
 
 module _ (S I : PlainType) (P : Two of_u8 S) (L : TwoLaws of_u8 S P) (Out : Data I → P.X → Type 0) (Fin : Data S → Data I → Data S → ℕ → Type 0)
@@ -40,20 +39,13 @@ module _ (S I : PlainType) (P : Two of_u8 S) (L : TwoLaws of_u8 S P) (Out : Data
   ends_store = seq (assign (place 0 []) (rv_opd (copy (place 3 (field 0 ∷ []))))) return
 
   abbrev function_store : Fn
-  function_store = record {
-    lifetimes = 1;
-    outlives = [];
-    ty_params = [];
-    givens = 0;
-    params = 2;
-    locals = local (ty_int w8) value_local ∷ local (ty_ref (named 0) mut (pointee S.shape.written)) value_local ∷ local I.shape.τ value_local ∷ local O.τ value_local ∷ local ty_bool value_local ∷ local S.shape.τ value_local ∷ [];
-    body = seq (call k (copy (place 2 []) ∷ []) (place 3 []))
-        (seq (assign (place 4 []) (op2 eq (copy (place 3 (field 0 ∷ []))) (int w8 0)))
-        (seq (cond (copy (place 4 []))
-        (seq (assign (place 5 []) (rv_opd (copy (place 3 (field 1 ∷ []))))) (assign (place 1 (deref S.shape.τ ∷ [])) (rv_opd (copy (place 5 [])))))
-        skip)
-        ends_store));
-  }
+  function_store = function_of 1 2 (local (ty_int w8) value_local ∷ local (ty_ref (named 0) mut (pointee S.shape.written)) value_local ∷ local I.shape.τ value_local ∷ local O.τ value_local ∷ local ty_bool value_local ∷ local S.shape.τ value_local ∷ [])
+      (seq (call k (copy (place 2 []) ∷ []) (place 3 []))
+      (seq (assign (place 4 []) (op2 eq (copy (place 3 (field 0 ∷ []))) (int w8 0)))
+      (seq (cond (copy (place 4 []))
+      (seq (assign (place 5 []) (rv_opd (copy (place 3 (field 1 ∷ []))))) (assign (place 1 (deref S.shape.τ ∷ [])) (rv_opd (copy (place 5 [])))))
+      skip)
+      ends_store)))
 
   -- code: end
 
@@ -82,8 +74,7 @@ module _ (S I : PlainType) (P : Two of_u8 S) (L : TwoLaws of_u8 S P) (Out : Data
         first ! $ branches ! (load ! (from ! (stop !)) (look ! 7 refl))
         -- 0: the record is stored over what stood there, which is not read
         (λ none.
-        move ! (2 ∷ 3 ∷ 0 ∷ []) $ opens ! tt (row S) {h = h} b o (λ vs.
-        spelt ! (row S) (Is (row S)) (shows 𝓛 (row S)) (λ z. S.val z ∷ []) S.tells full_share h vs b o $ move ! (1 ∷ []) $ drop ! $
+        move ! (2 ∷ 3 ∷ 0 ∷ []) $ opens_over S 𝓛 tt b o h $
         assigns ! (of_opd ! (load ! (from ! (fld ! refl (stop !))) (look_in ! 10 (sub ! 1 refl (whole !))))) (from ! (stop !))
         (init ! 6 refl ((S.lawful 𝓛).typed (P.second a) _ (L.is_second a _ is)).0) $
         assigns_last ! (of_opd ! (load ! (from ! (stop !)) (look ! 6 refl))) (from ! (hop ! (look ! 14 refl) (stop !)))
@@ -92,12 +83,11 @@ module _ (S I : PlainType) (P : Two of_u8 S) (L : TwoLaws of_u8 S P) (Out : Data
         exec ! C Λ (E l_result l_w l_i l_a l_none l_next) ends_store (at_ret (E l_result l_w l_i l_a l_none l_next) (lent_post S I of_u8 Fin 𝓛 κ q b o γ h i)) $
         assigns ! (of_opd ! (load ! (from ! (fld ! refl (stop !))) (look_in ! 10 (sub ! 0 refl (whole !))))) (from ! (stop !))
         (init ! 16 refl ((of_u8.lawful 𝓛).typed (P.first a) _ (L.is_first a _ is)).0) $
-        owned ! (row S) (Is (row S)) (S.makes 𝓛) (P.second a) (S.val (P.second a) ∷ []) (L.is_second a _ is) $
-        move ! (1 ∷ 0 ∷ 2 ∷ 3 ∷ 4 ∷ []) $ closes ! tt (row S) (P.second a) (S.val (P.second a) ∷ []) b o $
+        move ! (0 ∷ 1 ∷ 2 ∷ 3 ∷ []) $ closes_at S 𝓛 tt b o (P.second a) _ (L.is_second a _ is) $
         owned ! (row of_u8) (Is (row of_u8)) (of_u8.makes 𝓛) (P.first a) (of_u8.val (P.first a) ∷ []) (L.is_first a _ is) $
         returns ! (look ! 16 refl) $ forget ! 16 refl $ forget ! 14 refl $ forget ! 12 refl $ forget ! 10 refl $ forget ! 8 refl $ forget ! 6 refl $
         move ! (16 ∷ 17 ∷ []) $ free1 ! $ move ! (14 ∷ 15 ∷ []) $ free1 ! $ move ! (12 ∷ 13 ∷ []) $ free1 ! $ move ! (10 ∷ 11 ∷ []) $ free1 ! $ move ! (8 ∷ 9 ∷ []) $ free1 ! $ move ! (6 ∷ 7 ∷ []) $ free1 ! $ free0 ! $
-        keep ! (0 ∷ 1 ∷ 2 ∷ 3 ∷ []) $ by ! (lent_exit S I of_u8 Fin 𝓛 κ q b o γ h i is_i (P.second a) (P.first a) (of_u8.val (P.first a)) (law_taken h i a e none))))
+        keep ! (0 ∷ 1 ∷ 2 ∷ 3 ∷ []) $ by ! (lent_exit S I of_u8 Fin 𝓛 κ q b o γ h i is_i (P.second a) (P.first a) (of_u8.val (P.first a)) (law_taken h i a e none)))
         -- not 0: nothing is stored, and the number is returned
         (λ some_no. skips ! $
         exec ! C Λ (E l_result l_w l_i l_a l_none l_next) ends_store (at_ret (E l_result l_w l_i l_a l_none l_next) (lent_post S I of_u8 Fin 𝓛 κ q b o γ h i)) $

@@ -17,11 +17,11 @@ use types.Part.{whole, sub, look_in}
 use sound.WpLaws.{FmC, fm_of}
 use denote.Laws.{Is, shows}
 use denote.Memory.{pointee}
-use denote.Steps.{opens, closes, owned, peeks}
+use denote.Steps.{opens, owned, peeks}
 use denote.Struct.Steps.{spelt}
 use denote.Triple.Statement.{Triple}
 use Rattle.lent_laws.proofs.PlainTypes.{Shape, PlainType, row, Data, Two, two_shape, two_val, TwoLaws}
-use Rattle.lent_laws.proofs.LentRecord.{lent_entry, lent_exit, LentMeets, lent_meets}
+use Rattle.lent_laws.proofs.LentRecord.{function_of, closes_at, lent_entry, lent_exit, LentMeets, lent_meets}
 use Rattle.lent_laws.proofs.ByValue.{ByValue₂, lone_is, calls_by_value}
 
 module _ (S I N : PlainType) (P : Two S N) (L : TwoLaws S N P) (Out : Data S → Data I → P.X → Type 0) (Fin : Data S → Data I → Data S → Data N → Type 0)
@@ -31,19 +31,12 @@ module _ (S I N : PlainType) (P : Two S N) (L : TwoLaws S N P) (Out : Data S →
 
   -- code: written by tools/walks/write
   abbrev function_tick : Fn
-  function_tick = record {
-    lifetimes = 1;
-    outlives = [];
-    ty_params = [];
-    givens = 0;
-    params = 2;
-    locals = local N.shape.τ value_local ∷ local (ty_ref (named 0) mut (pointee S.shape.written)) value_local ∷ local I.shape.τ value_local ∷ local O.τ value_local ∷ local S.shape.τ value_local ∷ local S.shape.τ value_local ∷ [];
-    body = seq (assign (place 4 []) (rv_opd (copy (place 1 (deref S.shape.τ ∷ [])))))
-        (seq (call k (copy (place 4 []) ∷ copy (place 2 []) ∷ []) (place 3 []))
-        (seq (assign (place 5 []) (rv_opd (copy (place 3 (field 0 ∷ [])))))
-        (seq (assign (place 1 (deref S.shape.τ ∷ [])) (rv_opd (copy (place 5 []))))
-        (seq (assign (place 0 []) (rv_opd (copy (place 3 (field 1 ∷ []))))) return))));
-  }
+  function_tick = function_of 1 2 (local N.shape.τ value_local ∷ local (ty_ref (named 0) mut (pointee S.shape.written)) value_local ∷ local I.shape.τ value_local ∷ local O.τ value_local ∷ local S.shape.τ value_local ∷ local S.shape.τ value_local ∷ [])
+      (seq (assign (place 4 []) (rv_opd (copy (place 1 (deref S.shape.τ ∷ [])))))
+      (seq (call k (copy (place 4 []) ∷ copy (place 2 []) ∷ []) (place 3 []))
+      (seq (assign (place 5 []) (rv_opd (copy (place 3 (field 0 ∷ [])))))
+      (seq (assign (place 1 (deref S.shape.τ ∷ [])) (rv_opd (copy (place 5 []))))
+      (seq (assign (place 0 []) (rv_opd (copy (place 3 (field 1 ∷ []))))) return)))))
 
   -- code: end
 
@@ -76,8 +69,7 @@ module _ (S I N : PlainType) (P : Two S N) (L : TwoLaws S N P) (Out : Data S →
         (store_raw ! 1 refl ((S.lawful 𝓛).typed (P.first r) _ (L.is_first r _ is)).0) $
         assigns ! (of_opd ! (load ! (from ! (fld ! refl (stop !))) (look_in ! 11 (sub ! 1 refl (whole !))))) (from ! (stop !))
         (init ! 17 refl ((N.lawful 𝓛).typed (P.second r) _ (L.is_second r _ is)).0) $
-        drop ! $ owned ! (row S) (Is (row S)) (S.makes 𝓛) (P.first r) (S.val (P.first r) ∷ []) (L.is_first r _ is) $
-        move ! (1 ∷ 0 ∷ 2 ∷ 3 ∷ 4 ∷ []) $ closes ! tt (row S) (P.first r) (S.val (P.first r) ∷ []) b o $
+        drop ! $ move ! (0 ∷ 1 ∷ 2 ∷ 3 ∷ []) $ closes_at S 𝓛 tt b o (P.first r) _ (L.is_first r _ is) $
         owned ! (row N) (Is (row N)) (N.makes 𝓛) (P.second r) (N.val (P.second r) ∷ []) (L.is_second r _ is) $
         returns ! (look ! 16 refl) $ forget ! 16 refl $ forget ! 14 refl $ forget ! 12 refl $ forget ! 10 refl $ forget ! 8 refl $ forget ! 6 refl $
         move ! (16 ∷ 17 ∷ []) $ free1 ! $ move ! (14 ∷ 15 ∷ []) $ free1 ! $ move ! (12 ∷ 13 ∷ []) $ free1 ! $ move ! (10 ∷ 11 ∷ []) $ free1 ! $ move ! (8 ∷ 9 ∷ []) $ free1 ! $ move ! (6 ∷ 7 ∷ []) $ free1 ! $ free0 ! $

@@ -9,33 +9,31 @@
 --     }
 -- Where the functions by value meet their contracts, the lent one meets its own. Assumes nothing.
 -- The marked parts are written by tools/walks/write, from the names in LentTicked.walk there.
-use mathlib.Core.Path.{◌≡◌, refl, subst}
+use mathlib.Core.Path.{◌≡◌, refl}
 use mathlib.Core.Logic.{inl, inr}
 use Prim.Native.Nat.{ℕ}
 use mathlib.Core.List.{[], ◌∷◌}
 use seplogic.Ra.Ura.{Ura}
-use base.Fraction.{full_share}
-use mir.Syntax.{Callee, Fn, Body as Code, local, value_local, named, mut, imm, w8, ty_int, ty_ref, place, deref, field, variant, copy, int, rv_opd, seq, assign, call, switch, arm, no_default, return}
-use mir.Raw.{raw as raw_ty}
-use mir.Val.{Val, vptr}
-use base.Fml.{fat}
+use mir.Syntax.{Callee, Fn, Body as Code, local, value_local, named, mut, imm, w8, ty_int, ty_ref, place, deref, field, variant, copy, int, rv_opd, seq, assign, return}
+use mir.Val.{vptr}
 use prog.Wp.{Env, Tables}
 use types.Logic.{Logic}
-use types.Kit.{at_ret, ‵, ◌$◌, ◌∵◌, !, qed, by, move, keep, drop, use1, split, fsplit, fsplit3, rewrite}
-use types.Run.{lit, look, look_raw, init, store_raw, forget, stop, hop, fld, from, load, and_then, no_more, of_opd, assigns, assigns_last, first, exec, land, land_last, returns, enter, alloc1, alloc0, params1, pass1, pass0, free1, free0}
+use types.Kit.{at_ret, ◌$◌, ◌∵◌, !, qed, by, move, keep}
+use types.Run.{lit, look, init, store_raw, forget, stop, hop, fld, from, load, of_opd, assigns, assigns_last, first, exec, returns, enter, alloc1, alloc0, params1, pass1, pass0, free1, free0}
 use types.Part.{whole, sub, look_in}
 use types.Match.{vrt, in_variant}
 use sound.WpLaws.{FmC, fm_of}
-use denote.Laws.{Is, shows}
+use denote.Laws.{Is}
 use denote.Memory.{pointee}
-use denote.Steps.{looks, shuts, opens, closes, owned, peeks}
-use denote.Struct.Steps.{spelt}
+use denote.Steps.{owned}
 use denote.Triple.Statement.{Triple}
-use Rattle.lent_laws.proofs.PlainTypes.{Shape, row_of, PlainType, of_u8, is_0, row, Data, two_shape, HeldIs, answer_shape, answer_val, Five, five_shape, five_val, FiveLaws}
-use Rattle.lent_laws.proofs.ByValue.{ByValue, lone_is, calls_by_value, calls_by_value_last, Stage, StageMeets, Question, QuestionMeets}
+use Rattle.lent_laws.proofs.PlainTypes.{Shape, PlainType, of_u8, is_0, row, Data, two_shape, answer_shape, answer_val, Five, five_shape, FiveLaws}
+use Rattle.lent_laws.proofs.ByValue.{ByValue, Stage, StageMeets, Question, QuestionMeets}
+use Rattle.lent_laws.proofs.LentRecord.{function_of, opens_over, closes_at}
+use Rattle.lent_laws.proofs.FiveParts.{opens_entry, closes_record, asks_last, ask_last}
 use Rattle.lent_laws.proofs.OutRecord.{Post_out, out_entry, exits_out, OutMeets, out_meets}
 use Rattle.lent_laws.proofs.RunPart.{runs_first, run_first, runs_part, run_part}
-use Rattle.lent_laws.proofs.OnAnswer.{on_answer}
+use Rattle.lent_laws.proofs.OnAnswer.{matches_answer, on_answer}
 
 -- what the question gives is X₀, and the refusal U
 module _ (P₀ P₁ P₂ P₃ L I O U X₀ X₁ X₂ X₃ X₄ : PlainType) (F : Five P₀ P₁ P₂ P₃ L) (FL : FiveLaws P₀ P₁ P₂ P₃ L F)
@@ -54,50 +52,25 @@ module _ (P₀ P₁ P₂ P₃ L I O U X₀ X₁ X₂ X₃ X₄ : PlainType) (F :
   abbrev R : Shape
   R = five_shape P₀ P₁ P₂ P₃ L F
 
-  -- a record's value by its parts
-  abbrev parts_val : F.X → Val
-  parts_val z = five_val P₀ P₁ P₂ P₃ L F (F.part₀ z) (F.part₁ z) (F.part₂ z) (F.part₃ z) (F.last z)
-
-  -- the record of the parts that were returned, and its value
-  abbrev made : s₀.gives.X → s₁.gives.X → s₂.gives.X → s₃.gives.X → s₄.gives.X → F.X
-  made r₀ r₁ r₂ r₃ r₄ = F.make (s₀.gives.first r₀) (s₁.gives.first r₁) (s₂.gives.first r₂) (s₃.gives.first r₃) (s₄.gives.first r₄)
-
-  abbrev made_val : s₀.gives.X → s₁.gives.X → s₂.gives.X → s₃.gives.X → s₄.gives.X → Val
-  made_val r₀ r₁ r₂ r₃ r₄ = five_val P₀ P₁ P₂ P₃ L F (s₀.gives.first r₀) (s₁.gives.first r₁) (s₂.gives.first r₂) (s₃.gives.first r₃) (s₄.gives.first r₄)
-
   -- code: written by tools/walks/write
   -- the number is returned
   abbrev ends_ticked : Code
   ends_ticked = seq (assign (place 0 []) (rv_opd (copy (place 14 [])))) return
 
   abbrev function_ticked : Fn
-  function_ticked = record {
-    lifetimes = 3;
-    outlives = [];
-    ty_params = [];
-    givens = 0;
-    params = 3;
-    locals = local (ty_int w8) value_local ∷ local (ty_ref (named 0) mut (pointee R.written)) value_local ∷ local (ty_ref (named 1) imm (pointee I.shape.written)) value_local ∷ local (ty_ref (named 2) mut (pointee O.shape.written)) value_local ∷ local X₀.shape.τ value_local ∷ local (two_shape P₀ X₁ s₀.gives).τ value_local ∷ local (two_shape P₁ X₂ s₁.gives).τ value_local ∷ local (two_shape P₂ X₃ s₂.gives).τ value_local ∷ local (two_shape P₃ X₄ s₃.gives).τ value_local ∷ local (two_shape L O s₄.gives).τ value_local ∷ local U.shape.τ value_local ∷ local (answer_shape X₀ U ask.gives).τ value_local ∷ local L.shape.τ value_local ∷ local I.shape.τ value_local ∷ local (ty_int w8) value_local ∷ local P₀.shape.τ value_local ∷ local P₀.shape.τ value_local ∷ local P₁.shape.τ value_local ∷ local X₁.shape.τ value_local ∷ local P₁.shape.τ value_local ∷ local P₂.shape.τ value_local ∷ local X₂.shape.τ value_local ∷ local P₂.shape.τ value_local ∷ local P₃.shape.τ value_local ∷ local X₃.shape.τ value_local ∷ local P₃.shape.τ value_local ∷ local L.shape.τ value_local ∷ local X₄.shape.τ value_local ∷ local L.shape.τ value_local ∷ local O.shape.τ value_local ∷ [];
-    body = seq (assign (place 12 []) (rv_opd (copy (place 1 (deref R.τ ∷ field 4 ∷ [])))))
-        (seq (assign (place 13 []) (rv_opd (copy (place 2 (deref I.shape.τ ∷ [])))))
-        (seq (call ask.name (copy (place 12 []) ∷ copy (place 13 []) ∷ []) (place 11 []))
-        (seq (switch (copy (place 11 (variant 0 ∷ field 0 ∷ [])))
-        (arm (0 ∷ [])
-        (seq (assign (place 4 []) (rv_opd (copy (place 11 (variant 0 ∷ field 1 ∷ [])))))
-        (runs_first R.τ 0 15 4 16 5 s₀.name
-        (runs_part R.τ 1 17 18 19 5 6 s₁.name
-        (runs_part R.τ 2 20 21 22 6 7 s₂.name
-        (runs_part R.τ 3 23 24 25 7 8 s₃.name
-        (runs_part R.τ 4 26 27 28 8 9 s₄.name
-        (seq (assign (place 29 []) (rv_opd (copy (place 9 (field 1 ∷ [])))))
-        (seq (assign (place 3 (deref O.shape.τ ∷ [])) (rv_opd (copy (place 29 []))))
-        (assign (place 14 []) (rv_opd (int w8 0)))))))))))
-        (arm (1 ∷ [])
-        (seq (assign (place 10 []) (rv_opd (copy (place 11 (variant 1 ∷ field 1 ∷ [])))))
-        (call tell (copy (place 10 []) ∷ []) (place 14 [])))
-        no_default)))
-        ends_ticked)));
-  }
+  function_ticked = function_of 3 3 (local (ty_int w8) value_local ∷ local (ty_ref (named 0) mut (pointee R.written)) value_local ∷ local (ty_ref (named 1) imm (pointee I.shape.written)) value_local ∷ local (ty_ref (named 2) mut (pointee O.shape.written)) value_local ∷ local X₀.shape.τ value_local ∷ local (two_shape P₀ X₁ s₀.gives).τ value_local ∷ local (two_shape P₁ X₂ s₁.gives).τ value_local ∷ local (two_shape P₂ X₃ s₂.gives).τ value_local ∷ local (two_shape P₃ X₄ s₃.gives).τ value_local ∷ local (two_shape L O s₄.gives).τ value_local ∷ local U.shape.τ value_local ∷ local (answer_shape X₀ U ask.gives).τ value_local ∷ local L.shape.τ value_local ∷ local I.shape.τ value_local ∷ local (ty_int w8) value_local ∷ local P₀.shape.τ value_local ∷ local P₀.shape.τ value_local ∷ local P₁.shape.τ value_local ∷ local X₁.shape.τ value_local ∷ local P₁.shape.τ value_local ∷ local P₂.shape.τ value_local ∷ local X₂.shape.τ value_local ∷ local P₂.shape.τ value_local ∷ local P₃.shape.τ value_local ∷ local X₃.shape.τ value_local ∷ local P₃.shape.τ value_local ∷ local L.shape.τ value_local ∷ local X₄.shape.τ value_local ∷ local L.shape.τ value_local ∷ local O.shape.τ value_local ∷ [])
+      (asks_last R.τ I.shape.τ 12 13 11 ask.name
+      (seq (matches_answer 11 10 14 tell
+      (seq (assign (place 4 []) (rv_opd (copy (place 11 (variant 0 ∷ field 1 ∷ [])))))
+      (runs_first R.τ 0 15 4 16 5 s₀.name
+      (runs_part R.τ 1 17 18 19 5 6 s₁.name
+      (runs_part R.τ 2 20 21 22 6 7 s₂.name
+      (runs_part R.τ 3 23 24 25 7 8 s₃.name
+      (runs_part R.τ 4 26 27 28 8 9 s₄.name
+      (seq (assign (place 29 []) (rv_opd (copy (place 9 (field 1 ∷ [])))))
+      (seq (assign (place 3 (deref O.shape.τ ∷ [])) (rv_opd (copy (place 29 []))))
+      (assign (place 14 []) (rv_opd (int w8 0))))))))))))
+      ends_ticked))
 
   -- code: end
 
@@ -124,78 +97,48 @@ module _ (P₀ P₁ P₂ P₃ L I O U X₀ X₁ X₂ X₃ X₄ : PlainType) (F :
         enter ! C Λ function_ticked (vptr b o ∷ vptr b₁ o₁ ∷ vptr b₂ o₂ ∷ []) _ $
         alloc1 ! (λ l_result. alloc1 ! (λ l_w. alloc1 ! (λ l_i. alloc1 ! (λ l_out. alloc1 ! (λ l_start. alloc1 ! (λ l_r₀. alloc1 ! (λ l_r₁. alloc1 ! (λ l_r₂. alloc1 ! (λ l_r₃. alloc1 ! (λ l_r₄. alloc1 ! (λ l_refusal. alloc1 ! (λ l_answer. alloc1 ! (λ l_last. alloc1 ! (λ l_input. alloc1 ! (λ l_number. alloc1 ! (λ l_part₀. alloc1 ! (λ l_stored₀. alloc1 ! (λ l_part₁. alloc1 ! (λ l_handed₁. alloc1 ! (λ l_stored₁. alloc1 ! (λ l_part₂. alloc1 ! (λ l_handed₂. alloc1 ! (λ l_stored₂. alloc1 ! (λ l_part₃. alloc1 ! (λ l_handed₃. alloc1 ! (λ l_stored₃. alloc1 ! (λ l_part₄. alloc1 ! (λ l_handed₄. alloc1 ! (λ l_stored₄. alloc1 ! (λ l_output. alloc0 ! $
         params1 ! $ pass1 ! (init ! 56 refl (tt, tt)) $ pass1 ! (init ! 54 refl (tt, tt)) $ pass1 ! (init ! 52 refl (tt, tt)) $ pass0 ! $
-        move ! (61 ∷ []) $ fsplit ! $ fsplit3 ! $ drop ! $
-        move ! (2 ∷ []) $ fsplit ! $ fsplit ! $ drop ! $
-        move ! (1 ∷ []) $ fsplit ! $ fsplit3 ! $ drop ! $ move ! (2 ∷ []) $ drop ! $
-        move ! (65 ∷ []) $ split ! $ move ! (1 ∷ []) $ split ! $ move ! (1 ∷ []) $ split ! $ move ! (1 ∷ []) $ drop ! $
-        -- the borrow of the record is opened
-        move ! (6 ∷ 7 ∷ 2 ∷ []) $ opens ! tt (row_of R) {h = h} b o (λ vs.
-        spelt ! (row_of R) (Is (row_of R)) (shows 𝓛 (row_of R)) (λ z. parts_val z ∷ []) FL.tells full_share h vs b o $
-        move ! (1 ∷ []) $ peeks ! (row_of R) (Is (row_of R)) (shows 𝓛 (row_of R)) h (parts_val h ∷ []) (λ was. drop ! $
-        move ! (0 ∷ []) $ use1 𝓛 (‵ (fat full_share R.τ b o (parts_val h))) (𝓛.laws.raw_at full_share R.τ b o (parts_val h)) $
-        -- the last part and the input are copied
-        assigns ! (of_opd ! (load ! (from ! (hop ! (look ! 65 refl) (fld ! refl (stop !)))) (look_in ! 0 (sub ! 4 refl (whole !))))) (from ! (stop !))
-        (init ! 43 refl ((L.lawful 𝓛).typed (F.last h) _ (FL.is_last h _ was)).0) $
-        move ! (8 ∷ 5 ∷ []) $ looks ! tt (row I) (I.opens 𝓛) i b₁ o₁ (λ q' vs₁.
-        spelt ! (row I) (Is (row I)) (shows 𝓛 (row I)) (λ z. I.val z ∷ []) I.tells q' i vs₁ b₁ o₁ $
-        move ! (1 ∷ []) $ peeks ! (row I) (Is (row I)) (shows 𝓛 (row I)) i (I.val i ∷ []) (λ is_i. move ! (1 ∷ 0 ∷ []) $
-        assigns ! (of_opd ! (load ! (from ! (hop ! (look ! 65 refl) (stop !))) (look_raw ! 0 refl))) (from ! (stop !))
-        (init ! 43 refl ((I.lawful 𝓛).typed i _ is_i).0) $
-        shuts ! tt (row I) q' i (I.val i ∷ []) b₁ o₁ $
-        -- the question is asked, and what it answers is written out by its variant
-        calls_by_value (L ∷ I ∷ []) (answer_shape X₀ U ask.gives) (λ d. ask.does d.0 d.1.0) 𝓛 (F.last h, (i, tt)) (FL.is_last h _ was, (is_i, tt)) fm known
-        (and_then ! (load ! (from ! (stop !)) (look ! 44 refl)) (and_then ! (load ! (from ! (stop !)) (look ! 42 refl)) (no_more !))) (λ a v asked is_a.
-        land ! (from ! (stop !)) (init ! 46 refl ((ask.laws.lawful 𝓛).typed a _ is_a).0) $
-        rewrite ! 46 (λ (u : Val). ‵ (fat full_share (answer_shape X₀ U ask.gives).τ l_answer 0 u)) (lone_is v (answer_val X₀ U ask.gives a) (ask.laws.tells a (v ∷ []) is_a)) refl $ drop ! $
-        first ! $ move ! (45 ∷ []) $ on_answer X₀ U 𝓛 11 refl (ask.gives.holds a)
+        -- the borrow of the record is opened, and the last part is asked about the input
+        move ! (61 ∷ 60 ∷ []) $ opens_entry P₀ P₁ P₂ P₃ L F FL 𝓛 I O Fin κ κ₁ κ₂ q q₁ q₂ b o γ h b₁ o₁ i b₂ o₂ γ₂ w tt (λ was.
+        move ! (0 ∷ 65 ∷ 63 ∷ 43 ∷ 41 ∷ 45 ∷ 4 ∷ 5 ∷ []) $ ask_last P₀ P₁ P₂ P₃ L F FL 𝓛 fm I (answer_shape X₀ U ask.gives) (answer_val X₀ U ask.gives) ask.laws.tells (ask.laws.lawful 𝓛) ask.does known
+        12 13 11 refl refl refl refl refl h was i (λ a v asked is_a.
+        first ! $ move ! (5 ∷ 49 ∷ 44 ∷ []) $ on_answer X₀ U 𝓛 fm Told known_tell 11 10 14 refl refl refl (ask.gives.holds a) (ask.laws.is_held a _ is_a)
         -- Ok: the parts in their order
-        (λ begun ok. let is_begun = subst (HeldIs X₀ U) ok (ask.laws.is_held a _ is_a) in
+        (λ begun ok is_begun.
         assigns ! (of_opd ! (load ! (from ! (vrt ! refl (fld ! refl (stop !)))) (look_in ! 0 (in_variant ! 0 0 refl refl (whole !))))) (from ! (stop !))
-        (init ! 59 refl ((X₀.lawful 𝓛).typed begun _ is_begun).0) $
-        move ! (3 ∷ 65 ∷ 38 ∷ 59 ∷ 36 ∷ 57 ∷ []) $ run_first 𝓛 fm P₀ X₀ X₁ s₀ known₀ 0 15 4 16 5 refl refl refl refl refl refl
+        (init ! 61 refl ((X₀.lawful 𝓛).typed begun _ is_begun).0) $
+        move ! (3 ∷ 4 ∷ 44 ∷ 61 ∷ 42 ∷ 59 ∷ []) $ run_first 𝓛 fm P₀ X₀ X₁ s₀ known₀ 0 15 4 16 5 refl refl refl refl refl refl
         (F.part₀ h) refl (FL.is_part₀ h _ was) begun is_begun (λ r₀ e₀ f₀ g₀.
-        move ! (0 ∷ 1 ∷ 39 ∷ 37 ∷ 35 ∷ 5 ∷ 58 ∷ []) $ run_part 𝓛 fm P₀ P₁ X₁ X₂ s₀.gives s₁ known₁ 1 17 18 19 5 6 refl refl refl refl refl refl refl
+        move ! (0 ∷ 1 ∷ 44 ∷ 42 ∷ 40 ∷ 5 ∷ 59 ∷ []) $ run_part 𝓛 fm P₀ P₁ X₁ X₂ s₀.gives s₁ known₁ 1 17 18 19 5 6 refl refl refl refl refl refl refl
         (F.part₁ h) refl (FL.is_part₁ h _ was) r₀ g₀ (λ r₁ e₁ f₁ g₁.
-        move ! (0 ∷ 1 ∷ 37 ∷ 35 ∷ 33 ∷ 6 ∷ 57 ∷ []) $ run_part 𝓛 fm P₁ P₂ X₂ X₃ s₁.gives s₂ known₂ 2 20 21 22 6 7 refl refl refl refl refl refl refl
+        move ! (0 ∷ 1 ∷ 42 ∷ 40 ∷ 38 ∷ 6 ∷ 58 ∷ []) $ run_part 𝓛 fm P₁ P₂ X₂ X₃ s₁.gives s₂ known₂ 2 20 21 22 6 7 refl refl refl refl refl refl refl
         (F.part₂ h) refl (FL.is_part₂ h _ was) r₁ g₁ (λ r₂ e₂ f₂ g₂.
-        move ! (0 ∷ 1 ∷ 35 ∷ 33 ∷ 31 ∷ 6 ∷ 56 ∷ []) $ run_part 𝓛 fm P₂ P₃ X₃ X₄ s₂.gives s₃ known₃ 3 23 24 25 7 8 refl refl refl refl refl refl refl
+        move ! (0 ∷ 1 ∷ 40 ∷ 38 ∷ 36 ∷ 6 ∷ 57 ∷ []) $ run_part 𝓛 fm P₂ P₃ X₃ X₄ s₂.gives s₃ known₃ 3 23 24 25 7 8 refl refl refl refl refl refl refl
         (F.part₃ h) refl (FL.is_part₃ h _ was) r₂ g₂ (λ r₃ e₃ f₃ g₃.
-        move ! (0 ∷ 1 ∷ 33 ∷ 31 ∷ 29 ∷ 6 ∷ 55 ∷ []) $ run_part 𝓛 fm P₃ L X₄ O s₃.gives s₄ known₄ 4 26 27 28 8 9 refl refl refl refl refl refl refl
+        move ! (0 ∷ 1 ∷ 38 ∷ 36 ∷ 34 ∷ 6 ∷ 56 ∷ []) $ run_part 𝓛 fm P₃ L X₄ O s₃.gives s₄ known₄ 4 26 27 28 8 9 refl refl refl refl refl refl refl
         (F.last h) refl (FL.is_last h _ was) r₃ g₃ (λ r₄ e₄ f₄ g₄.
         -- the output is stored
-        move ! (29 ∷ 30 ∷ 28 ∷ []) $ opens ! tt (row O) {h = w} b₂ o₂ (λ vs₂.
-        spelt ! (row O) (Is (row O)) (shows 𝓛 (row O)) (λ z. O.val z ∷ []) O.tells full_share w vs₂ b₂ o₂ $ move ! (1 ∷ []) $ drop ! $
+        move ! (33 ∷ 34 ∷ 35 ∷ []) $ opens_over O 𝓛 tt b₂ o₂ w $
         assigns ! (of_opd ! (load ! (from ! (fld ! refl (stop !))) (look_in ! 10 (sub ! 1 refl (whole !))))) (from ! (stop !))
-        (init ! 32 refl ((O.lawful 𝓛).typed (s₄.gives.second r₄) _ g₄).0) $
-        assigns ! (of_opd ! (load ! (from ! (stop !)) (look ! 32 refl))) (from ! (hop ! (look ! 63 refl) (stop !)))
+        (init ! 37 refl ((O.lawful 𝓛).typed (s₄.gives.second r₄) _ g₄).0) $
+        assigns ! (of_opd ! (load ! (from ! (stop !)) (look ! 37 refl))) (from ! (hop ! (look ! 64 refl) (stop !)))
         (store_raw ! 0 refl ((O.lawful 𝓛).typed (s₄.gives.second r₄) _ g₄).0) $
-        assigns_last ! (of_opd ! (lit ! tt)) (from ! (stop !)) (init ! 48 refl ((of_u8.lawful 𝓛).typed 0 _ is_0).0) $
+        assigns_last ! (of_opd ! (lit ! tt)) (from ! (stop !)) (init ! 28 refl ((of_u8.lawful 𝓛).typed 0 _ is_0).0) $
         -- 0 is returned, and both borrows are closed
         exec ! C Λ (E l_result l_w l_i l_out l_start l_r₀ l_r₁ l_r₂ l_r₃ l_r₄ l_refusal l_answer l_last l_input l_number l_part₀ l_stored₀ l_part₁ l_handed₁ l_stored₁ l_part₂ l_handed₂ l_stored₂ l_part₃ l_handed₃ l_stored₃ l_part₄ l_handed₄ l_stored₄ l_output) ends_ticked (at_ret (E l_result l_w l_i l_out l_start l_r₀ l_r₁ l_r₂ l_r₃ l_r₄ l_refusal l_answer l_last l_input l_number l_part₀ l_stored₀ l_part₁ l_handed₁ l_stored₁ l_part₂ l_handed₂ l_stored₂ l_part₃ l_handed₃ l_stored₃ l_part₄ l_handed₄ l_stored₄ l_output) Post) $
-        assigns ! (of_opd ! (load ! (from ! (stop !)) (look ! 48 refl))) (from ! (stop !)) (init ! 68 refl ((of_u8.lawful 𝓛).typed 0 _ is_0).0) $
-        owned ! (row O) (Is (row O)) (O.makes 𝓛) (s₄.gives.second r₄) (O.val (s₄.gives.second r₄) ∷ []) g₄ $
-        move ! (1 ∷ 0 ∷ 2 ∷ 3 ∷ 4 ∷ []) $ closes ! tt (row O) (s₄.gives.second r₄) (O.val (s₄.gives.second r₄) ∷ []) b₂ o₂ $
-        owned ! (row_of R) (Is (row_of R)) (FL.makes 𝓛) (made r₀ r₁ r₂ r₃ r₄) (made_val r₀ r₁ r₂ r₃ r₄ ∷ [])
-        (FL.is_made (s₀.gives.first r₀) (s₁.gives.first r₁) (s₂.gives.first r₂) (s₃.gives.first r₃) (s₄.gives.first r₄) f₀ f₁ f₂ f₃ f₄) $
-        move ! (4 ∷ []) $ use1 𝓛 (‵ (fat full_share (raw_ty R.τ) b o (made_val r₀ r₁ r₂ r₃ r₄))) (𝓛.laws.at_raw full_share R.τ b o (made_val r₀ r₁ r₂ r₃ r₄)) $
-        move ! (0 ∷ 1 ∷ 29 ∷ 30 ∷ 31 ∷ []) $ closes ! tt (row_of R) (made r₀ r₁ r₂ r₃ r₄) (made_val r₀ r₁ r₂ r₃ r₄ ∷ []) b o $
+        assigns ! (of_opd ! (load ! (from ! (stop !)) (look ! 28 refl))) (from ! (stop !)) (init ! 68 refl ((of_u8.lawful 𝓛).typed 0 _ is_0).0) $
+        move ! (0 ∷ 1 ∷ 2 ∷ 3 ∷ []) $ closes_at O 𝓛 tt b₂ o₂ (s₄.gives.second r₄) _ g₄ $
+        move ! (3 ∷ 33 ∷ 34 ∷ 35 ∷ []) $ closes_record P₀ P₁ P₂ P₃ L F FL 𝓛 tt _ _ (FL.is_made (s₀.gives.first r₀) (s₁.gives.first r₁) (s₂.gives.first r₂) (s₃.gives.first r₃) (s₄.gives.first r₄) f₀ f₁ f₂ f₃ f₄) $
         owned ! (row of_u8) (Is (row of_u8)) (of_u8.makes 𝓛) 0 (of_u8.val 0 ∷ []) is_0 $
-        returns ! (look ! 67 refl) $ forget ! 67 refl $ forget ! 7 refl $ forget ! 64 refl $ forget ! 62 refl $ forget ! 26 refl $ forget ! 24 refl $ forget ! 20 refl $ forget ! 16 refl $ forget ! 11 refl $ forget ! 12 refl $ forget ! 28 refl $ forget ! 51 refl $ forget ! 49 refl $ forget ! 47 refl $ forget ! 25 refl $ forget ! 27 refl $ forget ! 21 refl $ forget ! 22 refl $ forget ! 23 refl $ forget ! 17 refl $ forget ! 18 refl $ forget ! 19 refl $ forget ! 13 refl $ forget ! 14 refl $ forget ! 15 refl $ forget ! 8 refl $ forget ! 9 refl $ forget ! 10 refl $ forget ! 31 refl $
-        move ! (67 ∷ 68 ∷ []) $ free1 ! $ move ! (7 ∷ 66 ∷ []) $ free1 ! $ move ! (63 ∷ 64 ∷ []) $ free1 ! $ move ! (61 ∷ 62 ∷ []) $ free1 ! $ move ! (25 ∷ 60 ∷ []) $ free1 ! $ move ! (23 ∷ 58 ∷ []) $ free1 ! $ move ! (19 ∷ 56 ∷ []) $ free1 ! $ move ! (15 ∷ 54 ∷ []) $ free1 ! $ move ! (10 ∷ 52 ∷ []) $ free1 ! $ move ! (10 ∷ 50 ∷ []) $ free1 ! $ move ! (47 ∷ 48 ∷ []) $ free1 ! $ move ! (21 ∷ 46 ∷ []) $ free1 ! $ move ! (43 ∷ 44 ∷ []) $ free1 ! $ move ! (41 ∷ 42 ∷ []) $ free1 ! $ move ! (39 ∷ 40 ∷ []) $ free1 ! $ move ! (19 ∷ 38 ∷ []) $ free1 ! $ move ! (19 ∷ 36 ∷ []) $ free1 ! $ move ! (16 ∷ 34 ∷ []) $ free1 ! $ move ! (16 ∷ 32 ∷ []) $ free1 ! $ move ! (16 ∷ 30 ∷ []) $ free1 ! $ move ! (13 ∷ 28 ∷ []) $ free1 ! $ move ! (13 ∷ 26 ∷ []) $ free1 ! $ move ! (13 ∷ 24 ∷ []) $ free1 ! $ move ! (10 ∷ 22 ∷ []) $ free1 ! $ move ! (10 ∷ 20 ∷ []) $ free1 ! $ move ! (10 ∷ 18 ∷ []) $ free1 ! $ move ! (7 ∷ 16 ∷ []) $ free1 ! $ move ! (7 ∷ 14 ∷ []) $ free1 ! $ move ! (7 ∷ 12 ∷ []) $ free1 ! $ move ! (9 ∷ 10 ∷ []) $ free1 ! $ free0 ! $
-        keep ! (0 ∷ 1 ∷ 2 ∷ 4 ∷ 5 ∷ 3 ∷ 7 ∷ 6 ∷ 8 ∷ []) $ by ! (exits (made r₀ r₁ r₂ r₃ r₄) (s₄.gives.second r₄) 0 (of_u8.val 0)
-        (law_taken h i w a begun r₀ r₁ r₂ r₃ r₄ asked ok e₀ e₁ e₂ e₃ e₄)))))))))
+        returns ! (look ! 67 refl) $ forget ! 67 refl $ forget ! 7 refl $ forget ! 31 refl $ forget ! 63 refl $ forget ! 26 refl $ forget ! 24 refl $ forget ! 20 refl $ forget ! 16 refl $ forget ! 11 refl $ forget ! 12 refl $ forget ! 28 refl $ forget ! 32 refl $ forget ! 33 refl $ forget ! 30 refl $ forget ! 25 refl $ forget ! 27 refl $ forget ! 21 refl $ forget ! 22 refl $ forget ! 23 refl $ forget ! 17 refl $ forget ! 18 refl $ forget ! 19 refl $ forget ! 13 refl $ forget ! 14 refl $ forget ! 15 refl $ forget ! 8 refl $ forget ! 9 refl $ forget ! 10 refl $ forget ! 36 refl $
+        move ! (67 ∷ 68 ∷ []) $ free1 ! $ move ! (7 ∷ 66 ∷ []) $ free1 ! $ move ! (30 ∷ 64 ∷ []) $ free1 ! $ move ! (61 ∷ 62 ∷ []) $ free1 ! $ move ! (25 ∷ 60 ∷ []) $ free1 ! $ move ! (23 ∷ 58 ∷ []) $ free1 ! $ move ! (19 ∷ 56 ∷ []) $ free1 ! $ move ! (15 ∷ 54 ∷ []) $ free1 ! $ move ! (10 ∷ 52 ∷ []) $ free1 ! $ move ! (10 ∷ 50 ∷ []) $ free1 ! $ move ! (22 ∷ 48 ∷ []) $ free1 ! $ move ! (21 ∷ 46 ∷ []) $ free1 ! $ move ! (22 ∷ 44 ∷ []) $ free1 ! $ move ! (22 ∷ 42 ∷ []) $ free1 ! $ move ! (21 ∷ 40 ∷ []) $ free1 ! $ move ! (19 ∷ 38 ∷ []) $ free1 ! $ move ! (19 ∷ 36 ∷ []) $ free1 ! $ move ! (16 ∷ 34 ∷ []) $ free1 ! $ move ! (16 ∷ 32 ∷ []) $ free1 ! $ move ! (16 ∷ 30 ∷ []) $ free1 ! $ move ! (13 ∷ 28 ∷ []) $ free1 ! $ move ! (13 ∷ 26 ∷ []) $ free1 ! $ move ! (13 ∷ 24 ∷ []) $ free1 ! $ move ! (10 ∷ 22 ∷ []) $ free1 ! $ move ! (10 ∷ 20 ∷ []) $ free1 ! $ move ! (10 ∷ 18 ∷ []) $ free1 ! $ move ! (7 ∷ 16 ∷ []) $ free1 ! $ move ! (7 ∷ 14 ∷ []) $ free1 ! $ move ! (7 ∷ 12 ∷ []) $ free1 ! $ move ! (9 ∷ 10 ∷ []) $ free1 ! $ free0 ! $
+        keep ! (0 ∷ 1 ∷ 2 ∷ 4 ∷ 5 ∷ 3 ∷ 8 ∷ 6 ∷ 7 ∷ []) $ by ! (exits (F.make (s₀.gives.first r₀) (s₁.gives.first r₁) (s₂.gives.first r₂) (s₃.gives.first r₃) (s₄.gives.first r₄)) (s₄.gives.second r₄) 0 (of_u8.val 0)
+        (law_taken h i w a begun r₀ r₁ r₂ r₃ r₄ asked ok e₀ e₁ e₂ e₃ e₄))))))))
         -- Err: nothing is stored; the refusal's number is returned, and the borrow of the record is closed
-        (λ refused err. let is_refused = subst (HeldIs X₀ U) err (ask.laws.is_held a _ is_a) in
-        assigns ! (of_opd ! (load ! (from ! (vrt ! refl (fld ! refl (stop !)))) (look_in ! 0 (in_variant ! 1 0 refl refl (whole !))))) (from ! (stop !))
-        (init ! 47 refl ((U.lawful 𝓛).typed refused _ is_refused).0) $
-        calls_by_value_last (U ∷ []) of_u8.shape (λ d. Told d.0) 𝓛 (refused, tt) (is_refused, tt) fm known_tell (and_then ! (load ! (from ! (stop !)) (look ! 48 refl)) (no_more !)) (λ n u told is_n.
-        land_last ! (from ! (stop !)) (init ! 41 refl ((of_u8.lawful 𝓛).typed n _ is_n).0) $
+        (λ refused n u err told is_n.
         exec ! C Λ (E l_result l_w l_i l_out l_start l_r₀ l_r₁ l_r₂ l_r₃ l_r₄ l_refusal l_answer l_last l_input l_number l_part₀ l_stored₀ l_part₁ l_handed₁ l_stored₁ l_part₂ l_handed₂ l_stored₂ l_part₃ l_handed₃ l_stored₃ l_part₄ l_handed₄ l_stored₄ l_output) ends_ticked (at_ret (E l_result l_w l_i l_out l_start l_r₀ l_r₁ l_r₂ l_r₃ l_r₄ l_refusal l_answer l_last l_input l_number l_part₀ l_stored₀ l_part₁ l_handed₁ l_stored₁ l_part₂ l_handed₂ l_stored₂ l_part₃ l_handed₃ l_stored₃ l_part₄ l_handed₄ l_stored₄ l_output) Post) $
-        assigns ! (of_opd ! (load ! (from ! (stop !)) (look ! 41 refl))) (from ! (stop !)) (init ! 68 refl ((of_u8.lawful 𝓛).typed n _ is_n).0) $
-        owned ! (row_of R) (Is (row_of R)) (FL.makes 𝓛) h (parts_val h ∷ []) was $
-        move ! (5 ∷ []) $ use1 𝓛 (‵ (fat full_share (raw_ty R.τ) b o (parts_val h))) (𝓛.laws.at_raw full_share R.τ b o (parts_val h)) $
-        move ! (0 ∷ 1 ∷ 6 ∷ 7 ∷ 8 ∷ []) $ closes ! tt (row_of R) h (parts_val h ∷ []) b o $
-        returns ! (look ! 67 refl) $ forget ! 67 refl $ forget ! 65 refl $ forget ! 63 refl $ forget ! 61 refl $ forget ! 47 refl $ forget ! 4 refl $ forget ! 44 refl $ forget ! 42 refl $ forget ! 40 refl $
-        move ! (67 ∷ 68 ∷ []) $ free1 ! $ move ! (65 ∷ 66 ∷ []) $ free1 ! $ move ! (63 ∷ 64 ∷ []) $ free1 ! $ move ! (61 ∷ 62 ∷ []) $ free1 ! $ move ! (59 ∷ 60 ∷ []) $ free1 ! $ move ! (57 ∷ 58 ∷ []) $ free1 ! $ move ! (55 ∷ 56 ∷ []) $ free1 ! $ move ! (53 ∷ 54 ∷ []) $ free1 ! $ move ! (51 ∷ 52 ∷ []) $ free1 ! $ move ! (49 ∷ 50 ∷ []) $ free1 ! $ move ! (47 ∷ 48 ∷ []) $ free1 ! $ move ! (4 ∷ 46 ∷ []) $ free1 ! $ move ! (43 ∷ 44 ∷ []) $ free1 ! $ move ! (41 ∷ 42 ∷ []) $ free1 ! $ move ! (39 ∷ 40 ∷ []) $ free1 ! $ move ! (37 ∷ 38 ∷ []) $ free1 ! $ move ! (35 ∷ 36 ∷ []) $ free1 ! $ move ! (33 ∷ 34 ∷ []) $ free1 ! $ move ! (31 ∷ 32 ∷ []) $ free1 ! $ move ! (29 ∷ 30 ∷ []) $ free1 ! $ move ! (27 ∷ 28 ∷ []) $ free1 ! $ move ! (25 ∷ 26 ∷ []) $ free1 ! $ move ! (23 ∷ 24 ∷ []) $ free1 ! $ move ! (21 ∷ 22 ∷ []) $ free1 ! $ move ! (19 ∷ 20 ∷ []) $ free1 ! $ move ! (17 ∷ 18 ∷ []) $ free1 ! $ move ! (15 ∷ 16 ∷ []) $ free1 ! $ move ! (13 ∷ 14 ∷ []) $ free1 ! $ move ! (11 ∷ 12 ∷ []) $ free1 ! $ move ! (9 ∷ 10 ∷ []) $ free1 ! $ free0 ! $
-        keep ! (3 ∷ 0 ∷ 1 ∷ 7 ∷ 8 ∷ 2 ∷ 4 ∷ 6 ∷ 5 ∷ []) $ by ! (exits h w n u (law_left h i w a refused n asked err told))))))))))))))))))))))))))))))))))))))))
+        assigns ! (of_opd ! (load ! (from ! (stop !)) (look ! 3 refl))) (from ! (stop !)) (init ! 68 refl ((of_u8.lawful 𝓛).typed n _ is_n).0) $
+        move ! (4 ∷ 11 ∷ 12 ∷ 13 ∷ []) $ closes_record P₀ P₁ P₂ P₃ L F FL 𝓛 tt h _ was $
+        returns ! (look ! 67 refl) $ forget ! 67 refl $ forget ! 7 refl $ forget ! 8 refl $ forget ! 63 refl $ forget ! 5 refl $ forget ! 4 refl $ forget ! 9 refl $ forget ! 10 refl $ forget ! 6 refl $
+        move ! (67 ∷ 68 ∷ []) $ free1 ! $ move ! (7 ∷ 66 ∷ []) $ free1 ! $ move ! (7 ∷ 64 ∷ []) $ free1 ! $ move ! (61 ∷ 62 ∷ []) $ free1 ! $ move ! (59 ∷ 60 ∷ []) $ free1 ! $ move ! (57 ∷ 58 ∷ []) $ free1 ! $ move ! (55 ∷ 56 ∷ []) $ free1 ! $ move ! (53 ∷ 54 ∷ []) $ free1 ! $ move ! (51 ∷ 52 ∷ []) $ free1 ! $ move ! (49 ∷ 50 ∷ []) $ free1 ! $ move ! (5 ∷ 48 ∷ []) $ free1 ! $ move ! (4 ∷ 46 ∷ []) $ free1 ! $ move ! (5 ∷ 44 ∷ []) $ free1 ! $ move ! (5 ∷ 42 ∷ []) $ free1 ! $ move ! (4 ∷ 40 ∷ []) $ free1 ! $ move ! (37 ∷ 38 ∷ []) $ free1 ! $ move ! (35 ∷ 36 ∷ []) $ free1 ! $ move ! (33 ∷ 34 ∷ []) $ free1 ! $ move ! (31 ∷ 32 ∷ []) $ free1 ! $ move ! (29 ∷ 30 ∷ []) $ free1 ! $ move ! (27 ∷ 28 ∷ []) $ free1 ! $ move ! (25 ∷ 26 ∷ []) $ free1 ! $ move ! (23 ∷ 24 ∷ []) $ free1 ! $ move ! (21 ∷ 22 ∷ []) $ free1 ! $ move ! (19 ∷ 20 ∷ []) $ free1 ! $ move ! (17 ∷ 18 ∷ []) $ free1 ! $ move ! (15 ∷ 16 ∷ []) $ free1 ! $ move ! (13 ∷ 14 ∷ []) $ free1 ! $ move ! (11 ∷ 12 ∷ []) $ free1 ! $ move ! (9 ∷ 10 ∷ []) $ free1 ! $ free0 ! $
+        keep ! (3 ∷ 0 ∷ 1 ∷ 6 ∷ 7 ∷ 2 ∷ 5 ∷ 8 ∷ 4 ∷ []) $ by ! (exits h w n u (law_left h i w a refused n asked err told))))))))))))))))))))))))))))))))))))
     -- walk: end

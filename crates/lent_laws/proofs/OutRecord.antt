@@ -69,8 +69,14 @@ module _ (R : Shape) (I O : PlainType) (Fin : R.X → Data I → Data O → R.X 
     Post_out = (walk_of 𝓛 ended_out stayed_out (clauses_out 𝓤)).post given_out
 
     -- what there is on entry: the lifetimes' tokens, and what the parameters own
+    abbrev pub tokens_out : Item 𝓤
+    tokens_out = ‵ (flft κ q) ⊛ ‵ (flft κ₁ q₁) ⊛ ‵ (flft κ₂ q₂) ⊛ ‵ ftrue
+
+    abbrev pub owned_out : Item 𝓤
+    owned_out = ‵ (owns (MutRef (named 0) κ (row_of R) ∷ ShrRef (named 1) κ₁ (row I) ∷ MutRef (named 2) κ₂ (row O) ∷ []) x_out at_out)
+
     abbrev pub out_entry : List (Item 𝓤)
-    out_entry = (‵ (flft κ q) ⊛ ‵ (flft κ₁ q₁) ⊛ ‵ (flft κ₂ q₂) ⊛ ‵ ftrue) ∷ ‵ (owns (MutRef (named 0) κ (row_of R) ∷ ShrRef (named 1) κ₁ (row I) ∷ MutRef (named 2) κ₂ (row O) ∷ []) x_out at_out) ∷ []
+    out_entry = tokens_out ∷ owned_out ∷ []
 
     abbrev pub OutWalk : Fn → Calls 𝓤 H → Loops 𝓤 H → Type 1
     OutWalk function C Λ = ent 𝓤 (on_entry 𝓛 sig_out (κ, (κ₁, (κ₂, tt))) (q, (q₁, (q₂, tt))) x_out at_out) (WpFn 𝓤 H C Λ function (vptr b o ∷ vptr b₁ o₁ ∷ vptr b₂ o₂ ∷ []) Post_out)
